@@ -1,19 +1,20 @@
 -- What a controller that was begun with, or none, and then a cycle make of what a pull has at hand.
-use Rattle.std.proofs.Common.{◌≡◌, ◌⊎◌, inl, inr, ⊎_elim, ◌<◌, ◌≤◌, ℕ, List, false, IfSome, IsSome, Ok, Err, refl, sym, ap, ◌∙◌, subst, arith}
-use Rattle.adr_disk.specs.Disk.{Among, LeavesOnly}
-use Rattle.adr_disk.proofs.Moments.{joined, weakened}
-use Rattle.adr_disk.proofs.Told.{at_told, if_told, is_some_of, some_of}
+use Rattle.std.proofs.Common.{◌≡◌, ◌⊎◌, inl, inr, ⊎_elim, ◌<◌, ◌≤◌, ◌↔◌, ℕ, List, IfSome, IsSome, Ok, Err, refl, sym, ap, subst, arith}
+use Rattle.adr_disk.specs.Disk.{LeavesOnly}
+use Rattle.adr_disk.proofs.Moments.{weakened}
+use Rattle.adr_disk.proofs.Told.{at_told, if_told}
 use Rattle.adr_io.specs.declared.Sink.{Ghosts as SinkGhosts}
 use Rattle.adr_outside.specs.declared.net.Net.{Ghosts as NetGhosts}
 use Rattle.adr_model.specs.Store.{State}
 use Rattle.adr_law_journal.specs.Areas.{Found, Started, found}
-use Rattle.adr_law_journal.specs.Kept.{FindsState}
 use Rattle.adr_journal.specs.declared.keeper.Keeper.{Ghosts as KeeperGhosts}
 use Rattle.adr_controller.specs.Running.{IsInOrder, Running}
+use Rattle.adr_node.proofs.Formatted.{always}
 use Rattle.adr_node.specs.Begins.{Begun, IsUnbegun, StandsOn}
 use Rattle.adr_node.specs.Seen.{Seen, of_keeper}
 use Rattle.adr_node.specs.declared.ended.Unbegun.{Unbegun}
 use Rattle.adr_node.specs.declared.ended.Unbegun.TheVariants as unbegun
+use Rattle.adr_law_controller.proofs.Crashes.{Crashes, LeavesLaw, TellsLaw, crash_on, tells_here}
 use Rattle.adr_law_controller.specs.Keeping.{Stands}
 use Rattle.adr_dial.specs.Dialled.{IsAt, Post}
 use Rattle.adr_dial.specs.Pulls.{Does, FallsOn, FindsPulled, Hands, LeavesSo, Pulls, PullsFrom, outside_of, unpulled}
@@ -47,11 +48,6 @@ module _ {D N S : Type 0} (d : Seen D) (n : NetGhosts N) (k : SinkGhosts S) (nam
       (λ s left. inl left) leaves
   leaves_as_before (Err place) leaves = leaves
 
-  pub leaves_told : (there : Started State) → LeavesOnly d.moment d.left_since old.disk new.disk (d.may_leave old.disk)
-      → IfSome (d.told old.disk) (λ _. LeavesSo d n k name there old new)
-  leaves_told there leaves =
-      if_told (d.told old.disk) (λ _. LeavesSo d n k name there old new) (λ t is. leaves_as_before there leaves)
-
   -- no controller was begun with
   pub none_pulled : (why : Unbegun) → IsUnbegun d k old.disk new.disk old.sink new.sink why → new.net ≡ old.net → Pulls d n k name old new (unpulled why)
   none_pulled why u same =
@@ -61,7 +57,8 @@ module _ {D N S : Type 0} (d : Seen D) (n : NetGhosts N) (k : SinkGhosts S) (nam
         found = u.found;
         is_found = u.is_found;
         does = inl ((why, refl, u.ends), same);
-        any_moment = leaves_told u.found u.any_moment;
+        any_moment = always (d.told old.disk) (leaves_as_before u.found u.any_moment);
+        still_told = u.still_told;
         write_fault = λ is. u.write_fault (write_unpulled why is);
         disk_fault = λ is. u.disk_fault (disk_unpulled why is);
         link_fault = λ is. absurd (link_unpulled why is);
@@ -72,23 +69,8 @@ module _ {D N S : Type 0} (d : Seen D) (n : NetGhosts N) (k : SinkGhosts S) (nam
       }
 
 module _ {K N S : Type 0} (k : KeeperGhosts K) (n : NetGhosts N) (s : SinkGhosts S) (name : List ℕ) where
-  -- the laws of a keeper
-  pub record Tells : Type 0 where
-    pub tells : (keeper : K) (f : Found State) → k.is_at keeper f → k.is_failed keeper ≡ false → IfSome (k.told keeper) (λ t. t ≡ Ok f)
-    pub leaves : (keeper : K) (f : Found State) (t : Started State) → k.is_at keeper f → k.is_failed keeper ≡ false
-        → IsSome (k.told keeper) → k.may_leave keeper t → t ≡ Ok f
-
-  -- a start finds where a controller stands that is up
-  stands_on : Tells → (c : Running K) → IsInOrder k c → (f : Found State) → Stands k f c → StandsOn (of_keeper k) c.keeper f
-  stands_on law c order f stands =
-      let running : k.is_failed c.keeper ≡ false = (order.up f.state stands.0).0.running in
-      if_told (k.told c.keeper) (λ t. (t ≡ Ok f) × Among (FindsState f.state) (k.may_leave c.keeper)) (λ t is. (
-        at_told (k.told c.keeper) (λ x. x ≡ Ok f) t is (law.tells c.keeper f stands.1 running),
-        λ x left. (f.log, law.leaves c.keeper f x stands.1 running (is_some_of (k.told c.keeper) t is) left),
-      ))
-
   -- a controller that was started, from where it then pulls
-  module _ (law : Tells) (old new : Hands K N S) (first last : Running K) (how : Pulled) (b : Begun k old.disk first)
+  module _ (tells : TellsLaw k) (leaves : LeavesLaw k) (old new : Hands K N S) (first last : Running K) (how : Pulled) (b : Begun k old.disk first)
       (is : new.disk ≡ last.keeper) (order : IsInOrder k last) where
     abbrev pub There : Found State
     There = found b.started.state b.started.log
@@ -101,29 +83,27 @@ module _ {K N S : Type 0} (k : KeeperGhosts K) (n : NetGhosts N) (s : SinkGhosts
     abbrev pub Crash : Type 0
     Crash =
         (f : Found State) (p : Post) → Stands k f first → IsAt p (outside_of n s old)
-        → IfSome (k.told first.keeper) (λ _. LeavesOnly k.moment k.left_since first.keeper last.keeper
-        (λ x. k.may_leave first.keeper x ⊎ FindsPulled name f p x))
+        → Crashes k first.keeper last.keeper (λ x. k.may_leave first.keeper x ⊎ FindsPulled name f p x)
 
     from_there : From → Does (of_keeper k) n s name (Ok There) old new how
     from_there from = λ p at.
         subst (λ (x : K). PullsFrom (StandsOn (of_keeper k) x) (FallsOn (of_keeper k) x) name There p how (outside_of n s new)) (sym is)
         (pulls_less (Up k last) (StandsOn (of_keeper k) last.keeper) (Fallen k last) (FallsOn (of_keeper k) last.keeper)
-        (stands_on law last order) (λ a b fell. fell.1) p (outside_of n s new) name There how
+        (λ f stands. tells_here k leaves f last tells stands order) (λ a b fell. fell.1) p (outside_of n s new) name There how
         (from There p (b.started.in_memory, b.started.at) at))
 
     crash_there : Crash → IfSome (k.told old.disk) (λ _. LeavesSo (of_keeper k) n s name (Ok There) old new)
     crash_there crash =
         if_told (k.told old.disk) (λ _. LeavesSo (of_keeper k) n s name (Ok There) old new) (λ t there. λ p at.
-        let mid = some_of (k.told first.keeper) (b.told.1 (is_some_of (k.told old.disk) t there)) in
-        subst (λ (x : K). LeavesOnly k.moment k.left_since old.disk x (λ x. k.may_leave old.disk x ⊎ FindsPulled name There p x)) (sym is)
-        (joined k.moment k.left_since old.disk first.keeper last.keeper (λ x. k.may_leave old.disk x ⊎ FindsPulled name There p x)
-        (weakened k.moment k.left_since old.disk first.keeper (k.may_leave old.disk) (λ x. k.may_leave old.disk x ⊎ FindsPulled name There p x) (λ x l. inl l) b.any_moment)
-        (weakened k.moment k.left_since first.keeper last.keeper (λ x. k.may_leave first.keeper x ⊎ FindsPulled name There p x)
-        (λ x. k.may_leave old.disk x ⊎ FindsPulled name There p x) (λ x. ⊎_elim (λ l. inl (b.left x l)) (λ f. inr f))
-        (at_told (k.told first.keeper) _ mid.0 mid.1 (crash There p (b.started.in_memory, b.started.at) at)))))
+        let left : Started State → Type 0 = λ x. k.may_leave old.disk x ⊎ FindsPulled name There p x in
+        subst (λ (x : K). LeavesOnly k.moment k.left_since old.disk x left) (sym is)
+        (at_told (k.told old.disk) (λ _. LeavesOnly k.moment k.left_since old.disk last.keeper left) t there
+        (crash_on k old.disk first.keeper last.keeper (k.may_leave old.disk) (λ x. k.may_leave first.keeper x ⊎ FindsPulled name There p x) left (λ x l. inl l)
+        (λ x. ⊎_elim (λ l. inl (b.left x l)) (λ f. inr f)) (always (k.told old.disk) b.any_moment) b.told.1 (crash There p (b.started.in_memory, b.started.at) at))))
 
-    -- what is counted
+    -- what is told and what is counted
     pub record Counted : Type 0 where
+      pub told : IsSome (k.told last.keeper) ↔ IsSome (k.told first.keeper)
       pub write : how ≡ pulls.WriteFault → s.faults old.sink < s.faults new.sink
       pub disk : how ≡ pulls.DiskFault → k.faults first.keeper < k.faults last.keeper
       pub link : how ≡ pulls.LinkFault → (n.doors old.net < n.doors new.net) ⊎ (n.lines old.net < n.lines new.net)
@@ -141,6 +121,7 @@ module _ {K N S : Type 0} (k : KeeperGhosts K) (n : NetGhosts N) (s : SinkGhosts
           is_found = b.started.told;
           does = inr (from_there from);
           any_moment = crash_there crash;
+          still_told = λ was. subst (λ (x : K). IsSome (k.told x)) (sym is) (counted.told.1 (b.told.1 was));
           write_fault = counted.write;
           disk_fault = λ failed. omega (arith, e, counted.disk failed, b.later);
           link_fault = counted.link;

@@ -5,10 +5,10 @@ use Rattle.adr_disk.proofs.Told.{at_told, if_told}
 use Rattle.adr_io.specs.declared.Sink.{Ghosts as SinkGhosts}
 use Rattle.adr_outside.specs.declared.net.Net.{Ghosts as NetGhosts}
 use Rattle.adr_model.specs.Store.{State}
-use Rattle.adr_law_journal.specs.Areas.{Found, Started}
+use Rattle.adr_law_journal.specs.Areas.{Started}
 use Rattle.adr_node.specs.Begins.{StandsOn}
 use Rattle.adr_node.specs.Seen.{Mirrors, Seen}
-use Rattle.adr_node.proofs.Mirrored.{ends_over, leaves_over, stands_over, told_over}
+use Rattle.adr_node.proofs.Mirrored.{ends_over, leaves_over, stands_over, still_over, told_over}
 use Rattle.adr_pull.specs.Fetch.{Point}
 use Rattle.adr_pull.specs.Told.{FindsNear}
 use Rattle.adr_dial.specs.Pulls.{Does, FallsOn, FindsPulled, Hands, IsUnpulled, LeavesSo, Pulls, outside_of}
@@ -56,6 +56,7 @@ module _ {D E N S : Type 0} (d : Seen D) (e : Seen E) (n : NetGhosts N) (k : Sin
     does = ⊎_elim (λ un. inl (unpulled_over p.found how un)) (λ does. inr (does_over p.found how does)) p.does;
     any_moment = if_told (d.told old) (λ _. LeavesSo d n k name p.found Before Behind) (λ t is.
         leaves_so_over p.found (at_told (e.told from) _ t (first.told ∙ is) p.any_moment));
+    still_told = still_over d e old new from to first last p.still_told;
     write_fault = p.write_fault;
     disk_fault = λ is. omega (arith, first.faults, last.faults, p.disk_fault is);
     link_fault = p.link_fault;

@@ -1,9 +1,7 @@
 -- A cycle over a connection that is opened and hung up, and what it comes to where less is told of the node.
 use Rattle.std.proofs.Common.{◌≡◌, ◌⊎◌, inl, inr, ⊎_elim, ℕ, suc, List, [], Option, Some, None, IfSome, Result, Ok, Err, sym, subst}
 use Rattle.std.specs.Option.{option_map}
-use Rattle.adr_disk.specs.Disk.{LeavesOnly}
-use Rattle.adr_disk.proofs.Moments.{started, weakened}
-use Rattle.adr_disk.proofs.Told.{at_told, if_told}
+use Rattle.adr_disk.proofs.Moments.{started}
 use Rattle.adr_model.specs.Store.{State}
 use Rattle.adr_law_journal.specs.Areas.{Found, Started}
 use Rattle.adr_journal.specs.declared.keeper.Keeper.{Ghosts}
@@ -13,8 +11,10 @@ use Rattle.adr_outside.proofs.Hanging.{OpensNext, opens_next}
 use Rattle.adr_pull.specs.declared.fault.PullFault.{PullFault}
 use Rattle.adr_pull.specs.declared.fault.PullFault.TheVariants as faults
 use Rattle.adr_pull.specs.Fetch.{BadPeer, Course, Ends, Over, Point, Refused, pulled}
+use Rattle.adr_law_controller.proofs.Crashes.{Crashes, OnlyNowLaw, crash_by}
 use Rattle.adr_law_controller.specs.Keeping.{Stands}
 use Rattle.adr_pull.specs.Told.{FindsBehind, Goes, HasFallen, Within, IsAt as AtPoint, IsAsking as Asks, IsTelling as Tells, HasFailed as Fails, EndsSo as EndedSo}
+use Rattle.adr_node.proofs.Formatted.{always}
 use Rattle.adr_dial.specs.Dialled.{IsAt, Outside, Post}
 use Rattle.adr_dial.specs.Pulls.{Cycles, EndsSo, FindsPulled, HasFailed, IsAsking, IsTelling, PullsFrom, as_pulled, exchange_limit, goes, met_at}
 use Rattle.adr_dial.specs.declared.ended.Pulled.{Pulled}
@@ -82,25 +82,19 @@ module _ {K : Type 0} (k : Ghosts K) (name : List ℕ) (f : Found State) (p : Po
       inr (o.came, o.rest, o.opens, subst (λ (h : Pulled). Cycles (Up k c) (Fallen k c) p o.rest (goes name f p o.came) h (record { net = hung; lines = lines_after })) (sym ended) all)
 
   -- what a crash in it leaves
-  pub crash_up : ((t : Traffic) (q : Point) → AtPoint k t q before net_open lines → IfSome (k.told before.keeper) (λ _.
-      LeavesOnly k.moment k.left_since before.keeper c.keeper (FindsBehind (λ n. pulled name n q))))
-      → IfSome (k.told before.keeper) (λ _.
-      LeavesOnly k.moment k.left_since before.keeper c.keeper (λ s. k.may_leave before.keeper s ⊎ FindsPulled name f p s))
+  pub crash_up : ((t : Traffic) (q : Point) → AtPoint k t q before net_open lines → Crashes k before.keeper c.keeper (FindsBehind (λ n. pulled name n q)))
+      → Crashes k before.keeper c.keeper (λ s. k.may_leave before.keeper s ⊎ FindsPulled name f p s)
   crash_up leaves =
       let o : OpensNext p.waiting p.done net_open = opens_next p.waiting p.done net net_open at.net opens in
       let there : AtPoint k (opened p o.rest o.came []) (met_at f p o.came) before net_open lines = record { node = stands; net = o.net; lines = at.lines } in
-      if_told (k.told before.keeper) (λ _. LeavesOnly k.moment k.left_since before.keeper c.keeper (λ s. k.may_leave before.keeper s ⊎ FindsPulled name f p s)) (λ x is.
-      weakened k.moment k.left_since before.keeper c.keeper (FindsBehind (goes name f p o.came)) (λ s. k.may_leave before.keeper s ⊎ FindsPulled name f p s)
-      (λ s finds. inr (o.came, o.rest, o.opens, finds))
-      (at_told (k.told before.keeper) _ x is (leaves (opened p o.rest o.came []) (met_at f p o.came) there)))
+      crash_by k before.keeper c.keeper (FindsBehind (goes name f p o.came)) (λ s. k.may_leave before.keeper s ⊎ FindsPulled name f p s)
+      (λ s finds. inr (o.came, o.rest, o.opens, finds)) (leaves (opened p o.rest o.came []) (met_at f p o.came) there)
 
 -- no connection was opened
-pub crash_none : {K : Type 0} (k : Ghosts K) (only_now : (keeper : K) (t : Started State) → k.left_since keeper (k.moment keeper) t → k.may_leave keeper t)
-    (keeper : K) (Q : Started State → Type 0)
-    → IfSome (k.told keeper) (λ _. LeavesOnly k.moment k.left_since keeper keeper (λ s. k.may_leave keeper s ⊎ Q s))
+pub crash_none : {K : Type 0} (k : Ghosts K) (only_now : OnlyNowLaw k) (keeper : K) (Q : Started State → Type 0)
+    → Crashes k keeper keeper (λ s. k.may_leave keeper s ⊎ Q s)
 crash_none k only_now keeper Q =
-    if_told (k.told keeper) (λ _. LeavesOnly k.moment k.left_since keeper keeper (λ s. k.may_leave keeper s ⊎ Q s)) (λ x is.
-    started k.moment k.left_since keeper (λ s. k.may_leave keeper s ⊎ Q s) (λ s left. inl (only_now keeper s left)))
+    always (k.told keeper) (started k.moment k.left_since keeper (λ s. k.may_leave keeper s ⊎ Q s) (λ s left. inl (only_now keeper s left)))
 
 -- ---- less is told of the node
 

@@ -1,5 +1,5 @@
 -- A connection was opened from a post, and is hung up again.
-use Rattle.std.proofs.Common.{◌≡◌, ℕ, List, [], ◌∷◌, ◌++◌, Option, Some}
+use Rattle.std.proofs.Common.{◌≡◌, ℕ, List, Option, Some}
 use Rattle.std.specs.Option.{option_map}
 use Rattle.adr_outside.specs.Traffic.{Traffic, hung_up, open_line}
 use Rattle.adr_outside.proofs.Hanging.{hung_line}

@@ -1,5 +1,5 @@
 -- What a pull does over the controller on a disk.
-use Rattle.std.specs.Prelude.{◌≡◌, ◌⊎◌, ◌<◌, ◌≤◌, ◌+◌, ℕ, List, [], ◌∷◌, Option, Some, None, IfSome, Result, Ok, Err}
+use Rattle.std.specs.Prelude.{◌≡◌, ◌⊎◌, ◌<◌, ◌≤◌, ◌+◌, ℕ, List, [], ◌∷◌, Option, Some, None, IfSome, IsSome, Result, Ok, Err}
 use Rattle.adr_io.specs.declared.Sink.{Ghosts as SinkGhosts}
 use Rattle.adr_disk.specs.Disk.{Among, LeavesOnly}
 use Rattle.adr_outside.specs.declared.net.Net.{Ghosts as NetGhosts}
@@ -134,6 +134,8 @@ pub record Pulls {D N S : Type 0} (d : Seen D) (n : NetGhosts N) (k : SinkGhosts
   pub is_found : IfSome (d.told old.disk) (λ t. t ≡ found)
   pub does : IsUnpulled d k found old new how ⊎ Does d n k name found old new how
   pub any_moment : IfSome (d.told old.disk) (λ _. LeavesSo d n k name found old new)
+  -- a disk that tells what a start finds goes on telling it
+  pub still_told : IsSome (d.told old.disk) → IsSome (d.told new.disk)
   -- each fault comes where its count rose, and no count falls
   pub write_fault : how ≡ pulls.WriteFault → k.faults old.sink < k.faults new.sink
   pub disk_fault : how ≡ pulls.DiskFault → d.faults old.disk < d.faults new.disk

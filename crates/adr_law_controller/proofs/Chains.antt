@@ -1,13 +1,13 @@
 -- Step behind step.
-use Rattle.std.proofs.Common.{◌≡◌, ◌⊎◌, inl, ⊎_elim, ◌∙◌, sym, ap, subst, refl, ℕ, zero, suc, false, List, [], ◌∷◌, take, IfSome, IsSome, Ok, ◌≤◌, arith}
+use Rattle.std.proofs.Common.{◌≡◌, ◌⊎◌, inl, ⊎_elim, ◌∙◌, sym, ap, subst, refl, ℕ, zero, suc, List, [], ◌∷◌, take, IfSome, IsSome, ◌≤◌, arith}
 use Rattle.std.specs.Prelude.{◌↔◌}
 use Rattle.adr_disk.specs.Disk.{Among, LeavesOnly}
 use Rattle.adr_disk.proofs.Moments.{joined, started, weakened}
-use Rattle.adr_model.specs.Store.{State}
-use Rattle.adr_law_journal.specs.Areas.{Found, found, Started}
+use Rattle.adr_law_journal.specs.Areas.{found}
 use Rattle.adr_law_journal.proofs.Told.{at_told, if_told, is_some_of, some_is, some_of}
 use Rattle.adr_journal.specs.declared.keeper.Keeper.{Ghosts}
 use Rattle.adr_controller.specs.Running.{Running, IsInOrder}
+use Rattle.adr_law_controller.proofs.Crashes.{LeavesLaw, OnlyNowLaw}
 use Rattle.adr_law_controller.specs.Behind.{Step, Reached, surely, behind, behind_step, MayFind, AreTrueOf}
 use Rattle.adr_law_controller.specs.Laws.{Leads, StandsAt, StandsBehindSteps, UpStandsAtItsState}
 use Rattle.adr_law_controller.proofs.Steps.{IsAt, step_counts, step_leads, step_moves, step_tells, step_true}
@@ -39,9 +39,9 @@ module _ {K : Type 0} (k : Ghosts K) where
   all_ordered (step ∷ steps) first last order (next, comes, ordered, leads) = all_ordered steps next last ordered leads
 
 module _ {K : Type 0} (k : Ghosts K)
-    (leaves : (keeper : K) (f : Found State) (t : Started State) → k.is_at keeper f → k.is_failed keeper ≡ false → IsSome (k.told keeper) → k.may_leave keeper t → t ≡ Ok f)
+    (leaves : LeavesLaw k)
     (honest : (keeper : K) → IfSome (k.told keeper) (k.may_leave keeper))
-    (only_now : (keeper : K) (t : Started State) → k.left_since keeper (k.moment keeper) t → k.may_leave keeper t) where
+    (only_now : OnlyNowLaw k) where
   told_stands : (c : Running K) (r : Reached) → IsInOrder k c → IsAt c r → (IsSome (k.told c.keeper) → Among (MayFind r) (k.may_leave c.keeper)) → StandsAt k r c
   told_stands c r order at left = record {
     in_order = order;

@@ -1,4 +1,5 @@
 pub mod Follows
+pub mod Crashes
 mod Steps
 mod Chains
 mod Working

@@ -6,7 +6,7 @@ use Rattle.adr_disk.specs.Disk.{Among, LeavesOnly}
 use Rattle.adr_disk.proofs.Moments.{started, weakened}
 use Rattle.adr_model.specs.Store.{State}
 use Rattle.adr_model.specs.Change.{Change, after}
-use Rattle.adr_law_journal.specs.Areas.{Found, found, Started}
+use Rattle.adr_law_journal.specs.Areas.{found, Started}
 use Rattle.adr_law_journal.specs.Kept.{FindsState}
 use Rattle.adr_law_journal.proofs.Told.{at_told, some_of, some_is}
 use Rattle.adr_journal.specs.Ended.{IsDamageOf}
@@ -17,6 +17,7 @@ use Rattle.adr_controller.specs.declared.refusal.Hindrance.{Hindrance}
 use Rattle.adr_controller.specs.declared.refusal.Hindrance.TheVariants.{Down, Failed, Full, DiskFault, NoMemory}
 use Rattle.adr_controller.specs.Running.{Running, IsInOrder, IsStarted}
 use Rattle.adr_controller.specs.Did.{Calls as CallsSo, Commits, KeepsAll}
+use Rattle.adr_law_controller.proofs.Crashes.{LeavesLaw, OnlyNowLaw}
 use Rattle.adr_law_controller.specs.Called.{Call, change_of_call}
 use Rattle.adr_law_controller.specs.Behind.{Step, Calls, Stops, Starts, Reached, surely, behind_step, MayBe, MayFind, IsTrueOf}
 use Rattle.adr_law_controller.specs.Laws.{StartsSo, ComesBy}
@@ -98,9 +99,9 @@ pub record Moves {K : Type 0} (k : Ghosts K) (r next : Reached) (old new : K) : 
   pub moments : LeavesOnly k.moment k.left_since old new (λ f. MayFind r f ⊎ MayFind next f)
 
 module _ {K : Type 0} (k : Ghosts K)
-    (leaves : (keeper : K) (f : Found State) (t : Started State) → k.is_at keeper f → k.is_failed keeper ≡ false → IsSome (k.told keeper) → k.may_leave keeper t → t ≡ Ok f)
+    (leaves : LeavesLaw k)
     (honest : (keeper : K) → IfSome (k.told keeper) (k.may_leave keeper))
-    (only_now : (keeper : K) (t : Started State) → k.left_since keeper (k.moment keeper) t → k.may_leave keeper t)
+    (only_now : OnlyNowLaw k)
     (r : Reached) (old new : Running K) (told : IsSome (k.told old.keeper)) (left : Among (MayFind r) (k.may_leave old.keeper)) where
   stays : Moves k r r old.keeper old.keeper
   stays = record {

@@ -14,7 +14,6 @@ use Rattle.adr_session.specs.declared.ending.End.TheVariants as ended
 use Rattle.adr_session.specs.declared.ending.Served.{Served}
 use Rattle.adr_session.specs.declared.ending.ServeFault.{ServeFault}
 use Rattle.adr_session.specs.declared.ending.ServeFault.TheVariants as faults
-use Rattle.adr_session.specs.Talk.{Point}
 use Rattle.adr_law_controller.specs.Keeping.{Stands}
 use Rattle.adr_session.specs.Told.{IsAt, FindsNear, LeavesBehind, ServedTo, Serves}
 use Rattle.adr_online.specs.declared.ended.Stop.TheVariants as stops

@@ -1,29 +1,28 @@
 -- What a controller that was begun with, or none, is to the command.
-use Rattle.std.proofs.Common.{◌≡◌, ◌⊎◌, ◌<◌, ◌≤◌, ◌∙◌, inl, inr, ⊎_elim, refl, sym, ap, subst, ℕ, false, Option, Some, None, Result, Ok, Err, IfSome, IsSome, arith}
+use Rattle.std.proofs.Common.{◌≡◌, ◌⊎◌, ◌∙◌, inl, inr, ⊎_elim, refl, sym, ap, subst, ℕ, Option, Some, None, Result, Ok, Err, arith}
 use Rattle.adr_io.specs.declared.Sink.{Ghosts as SinkGhosts}
-use Rattle.adr_disk.proofs.Moments.{joined, weakened}
+use Rattle.adr_disk.proofs.Moments.{weakened}
 use Rattle.adr_disk.specs.Disk.{Among, LeavesOnly}
 use Rattle.adr_outside.specs.declared.net.Net.{Ghosts as NetGhosts}
 use Rattle.adr_outside.specs.declared.clock.Clock.{Ghosts as ClockGhosts}
 use Rattle.adr_model.specs.Store.{State}
 use Rattle.adr_law_journal.specs.Areas.{Found, Started, found}
-use Rattle.adr_law_journal.specs.Kept.{FindsState}
-use Rattle.adr_law_journal.proofs.Told.{at_told, if_told, is_some_of, some_of}
+use Rattle.adr_law_journal.proofs.Told.{at_told, if_told}
 use Rattle.adr_journal.specs.declared.keeper.Keeper.{Ghosts as KeeperGhosts}
-use Rattle.adr_controller.specs.Running.{IsInOrder, Running}
+use Rattle.adr_controller.specs.Running.{IsInOrder}
+use Rattle.adr_node.proofs.Formatted.{always}
 use Rattle.adr_node.specs.Begins.{Begun, IsUnbegun, StandsOn}
 use Rattle.adr_node.specs.Seen.{Seen, of_keeper}
 use Rattle.adr_node.specs.declared.ended.Unbegun.{Unbegun}
 use Rattle.adr_node.specs.declared.ended.Unbegun.TheVariants as unbegun
-use Rattle.adr_session.specs.Talk.{Point}
 use Rattle.adr_law_controller.specs.Keeping.{Stands}
 use Rattle.adr_session.specs.Told.{FindsNear}
-use Rattle.adr_session.proofs.Leaving.{LeavesLaw}
+use Rattle.adr_law_controller.proofs.Crashes.{LeavesLaw, TellsLaw, crash_on, since, tells_here}
 use Rattle.adr_online.specs.declared.ended.Stop.{Stop}
 use Rattle.adr_online.specs.declared.ended.Stop.TheVariants as stops
 use Rattle.adr_online.specs.declared.ended.Online.{Online}
 use Rattle.adr_online.specs.declared.ended.Online.TheVariants as online
-use Rattle.adr_online.specs.Posts.{Post, FindsWithin}
+use Rattle.adr_online.specs.Posts.{FindsWithin}
 use Rattle.adr_online.specs.Served.{HasFallen}
 use Rattle.adr_online.specs.Goes.{Server, ServesSo, outside}
 use Rattle.adr_online.specs.Serves.{Hands, FallsOn, LeavesSo, Serves, ServesFrom, online_of, unserved}
@@ -67,7 +66,7 @@ none_served d n c s count old new why u net clock =
       found = u.found;
       is_found = u.is_found;
       does = inl ((why, refl, u.ends), net, clock);
-      any_moment = if_told (d.told old.disk) (λ _. LeavesSo d n c s count u.found old new) (λ t tells. leaves_as_before d n c s count u.found old new u.any_moment);
+      any_moment = always (d.told old.disk) (leaves_as_before d n c s count u.found old new u.any_moment);
       still_told = u.still_told;
       write_fault = λ is. u.write_fault (write_unserved why is);
       disk_fault = λ is. u.disk_fault (disk_unserved why is);
@@ -81,26 +80,6 @@ none_served d n c s count old new why u net clock =
     }
 
 -- ---- one was
-
-module _ {K : Type 0} (k : KeeperGhosts K) where
-  abbrev pub TellsLaw : Type 0
-  TellsLaw = (x : K) (f : Found State) → k.is_at x f → k.is_failed x ≡ false → IfSome (k.told x) (λ t. t ≡ Ok f)
-
-  -- a keeper that stands for a state
-  pub stands_on : TellsLaw → LeavesLaw k → (c : Running K) → IsInOrder k c → (f : Found State) → Stands k f c → StandsOn (of_keeper k) c.keeper f
-  stands_on tells leaves c order f stands =
-      let runs = (order.up f.state stands.0).0.running in
-      if_told (k.told c.keeper) (λ t. (t ≡ Ok f) × Among (FindsState f.state) (k.may_leave c.keeper)) (λ t there. (
-        at_told (k.told c.keeper) (λ t. t ≡ Ok f) t there (tells c.keeper f stands.1 runs),
-        λ x left. (f.log, leaves c.keeper f x stands.1 runs (is_some_of (k.told c.keeper) t there) left),
-      ))
-
-  -- and one whose disk failed
-  pub falls_on : (old mid : K) → (IsSome (k.told old) → IsSome (k.told mid)) → (c : Running K) (x : Point) → HasFallen k mid x c → FallsOn (of_keeper k) old c.keeper x
-  falls_on old mid told c x fell =
-      if_told (k.told old) (λ _. Among (FindsNear x) (k.may_leave c.keeper)) (λ t there.
-      let y = some_of (k.told mid) (told (is_some_of (k.told old) t there)) in
-      at_told (k.told mid) (λ _. Among (FindsNear x) (k.may_leave c.keeper)) y.0 y.1 fell.1)
 
 -- how it stopped, by how the command ended
 abbrev stop_of : Online → Option Stop
@@ -152,15 +131,13 @@ module _ {K N C S : Type 0} (k : KeeperGhosts K) (n : NetGhosts N) (c : ClockGho
             subst (λ (x : Online). ServesFrom (StandsOn (of_keeper k) new.keeper) (FallsOn (of_keeper k) keeper new.keeper) count p x (outside n c s w)) (sym is)
             (ends_so (StandsOn (of_keeper k) new.keeper) (FallsOn (of_keeper k) keeper new.keeper) count p r (outside n c s w)
             (serves_so (λ f. Stands k f new) (StandsOn (of_keeper k) new.keeper) (λ x. HasFallen k mid.keeper x new) (FallsOn (of_keeper k) keeper new.keeper)
-            (stands_on k tells leaves new order) (falls_on k keeper mid.keeper b.told.1 new) count p r (outside n c s w)
+            (λ f stands. tells_here k leaves f new tells stands order) (λ x fell. since k keeper mid.keeper (Among (FindsNear x) (k.may_leave new.keeper)) b.told.1 fell.1) count p r (outside n c s w)
             (e.serves p (subst (λ (x : Found State). Stands k x mid) (sym at_f) stands) at))));
         any_moment = if_told (k.told keeper) (λ _. LeavesSo (of_keeper k) n c s count there before after) (λ t here. λ p at_f at.
-            let y = some_of (k.told mid.keeper) (b.told.1 (is_some_of (k.told keeper) t here)) in
-            joined k.moment k.left_since keeper mid.keeper new.keeper (λ x. k.may_leave keeper x ⊎ FindsWithin count p x)
-            (weakened k.moment k.left_since keeper mid.keeper (k.may_leave keeper) (λ x. k.may_leave keeper x ⊎ FindsWithin count p x) (λ x left. inl left) b.any_moment)
-            (weakened k.moment k.left_since mid.keeper new.keeper (FindsWithin count p) (λ x. k.may_leave keeper x ⊎ FindsWithin count p x) (λ x finds. inr finds)
-            (at_told (k.told mid.keeper) (λ _. LeavesOnly k.moment k.left_since mid.keeper new.keeper (FindsWithin count p)) y.0 y.1
-            (e.any_moment p (subst (λ (x : Found State). Stands k x mid) (sym at_f) stands) at))));
+            let left : Started State → Type 0 = λ x. k.may_leave keeper x ⊎ FindsWithin count p x in
+            at_told (k.told keeper) (λ _. LeavesOnly k.moment k.left_since keeper new.keeper left) t here
+            (crash_on k keeper mid.keeper new.keeper (k.may_leave keeper) (FindsWithin count p) left (λ x left. inl left) (λ x finds. inr finds)
+            (always (k.told keeper) b.any_moment) b.told.1 (e.any_moment p (subst (λ (x : Found State). Stands k x mid) (sym at_f) stands) at)));
         still_told = λ was. e.told (b.told.1 was);
         write_fault = λ ends. e.write (stopped_so r stops.Write online.WriteFault (sym is ∙ ends) refl);
         disk_fault = λ ends. omega (arith, b.later, e.disk (stopped_so r stops.Disk online.DiskFault (sym is ∙ ends) refl));

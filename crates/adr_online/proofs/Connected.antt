@@ -1,17 +1,18 @@
 -- One connection more: what its three steps come to.
 use Rattle.std.proofs.Common.{◌≡◌, ◌⊎◌, ◌<◌, ◌≤◌, ◌∙◌, inl, inr, refl, sym, ap, subst, ℕ, List, [], ◌∷◌, ◌++◌, take, Option, Some, Result, Ok, Err, IfSome, arith}
-use Rattle.std.specs.Prelude.{IfErr, IfOk, IsErrOf, IsSome, OnErr, OnOk}
+use Rattle.std.specs.Prelude.{IfErr, IsErrOf, IsSome, OnErr, OnOk}
 use Rattle.std.specs.Option.{option_map}
 use Rattle.adr_io.specs.Told.{Adds, AddsFront}
 use Rattle.adr_io.specs.declared.Fault.{Fault}
-use Rattle.adr_io.specs.declared.Fault.TheVariants.{Failed}
+use Rattle.adr_io.specs.declared.Fault.TheVariants.{Failed, NoMemory}
 use Rattle.adr_io.specs.declared.Sink.{Ghosts as SinkGhosts}
 use Rattle.adr_model.specs.Store.{State}
 use Rattle.adr_law_journal.specs.Areas.{Found}
 use Rattle.adr_law_journal.proofs.Told.{at_told}
 use Rattle.adr_journal.specs.declared.keeper.Keeper.{Ghosts as KeeperGhosts}
 use Rattle.adr_controller.specs.Running.{IsInOrder, Running}
-use Rattle.adr_outside.specs.Traffic.{Traffic, Opens, hung_up, open_line}
+use Rattle.adr_outside.specs.Traffic.{Traffic, Opens, hung_up}
+use Rattle.adr_outside.proofs.Hanging.{hung_twice}
 use Rattle.adr_outside.specs.Counted.{IsCounted}
 use Rattle.adr_outside.specs.declared.net.Net.{Ghosts as NetGhosts}
 use Rattle.adr_outside.specs.declared.clock.Clock.{Ghosts as ClockGhosts}
@@ -19,12 +20,13 @@ use Rattle.adr_session.specs.declared.ending.Served.{Served}
 use Rattle.adr_session.specs.Talk.{Point}
 use Rattle.adr_law_controller.specs.Keeping.{Stands}
 use Rattle.adr_session.specs.Told.{FindsBehind}
-use Rattle.adr_session.proofs.Leaving.{Crashes, LeavesLaw, OnlyNowLaw, crash_by, still_crashes}
+use Rattle.adr_law_controller.proofs.Crashes.{Crashes, LeavesLaw, OnlyNowLaw, crash_by, still_crashes}
+use Rattle.adr_session.proofs.Reacting.{if_ok_any}
 use Rattle.adr_online.specs.declared.ended.Stop.{Stop}
 use Rattle.adr_online.specs.declared.ended.Stop.TheVariants as stops
 use Rattle.adr_online.specs.Lines.{connection_line}
 use Rattle.adr_online.specs.Posts.{Post, FindsFrom, opened}
-use Rattle.adr_online.specs.Served.{AnswersAll, HasFallen, IsAt, IsTelling, Outside, ServesNext, StopsAt}
+use Rattle.adr_online.specs.Served.{called, AnswersAll, HasFallen, IsAt, IsTelling, Outside, ServesNext, StopsAt}
 use Rattle.adr_online.specs.Goes.{Answers, CallsDoor, Server, ServesOne, outside}
 use Rattle.adr_online.proofs.Hanging.{OpensNext, closed_still, opens_next}
 
@@ -117,23 +119,25 @@ module _ {K : Type 0} (k : KeeperGhosts K) where
 
 -- ---- a call of a door
 
-module _ {N : Type 0} (n : NetGhosts N) (old new : N) where
-  pub door_passed : IsCounted (n.doors old) (n.doors new) (n.lines old) (n.lines new) (let r : Result Unit Fault = Ok tt in r) → CallsDoor n old new (Ok tt)
-  door_passed a = record { only = tt; stays = tt; link = λ is. absurd (cc is); doors_later = a.never_falls; lines = a.other }
+-- where it opened a connection, it passed
+pub called_on : (r : Result Unit Fault) (A : Type 0) → OnOk r A → OnOk (called r) A
+called_on (Ok u) A a = a
+called_on (Err Failed) A a = tt
+called_on (Err NoMemory) A a = tt
 
-  module _ (e : Fault) (a : IsCounted (n.doors old) (n.doors new) (n.lines old) (n.lines new) (let r : Result Unit Fault = Err e in r))
-      (stays : option_map hung_up (n.traffic new) ≡ option_map hung_up (n.traffic old)) where
-    pub door_failed : e ≡ Failed → CallsDoor n old new (Err stops.Link)
-    door_failed is = record {
-      only = inl refl;
-      stays = stays;
-      link = λ same. a.failed (ap (λ (x : Fault). let r : Result Unit Fault = Err x in r) is);
-      doors_later = a.never_falls;
-      lines = a.other;
-    }
+-- where it opened none, none is open, or the one before
+pub hung_so :
+    (before after : Option Traffic) (r : Result Unit Fault) → (r ≡ Err Failed → after ≡ option_map hung_up before) → (r ≡ Err NoMemory → after ≡ before)
+    → (e : Fault) → r ≡ Err e → option_map hung_up after ≡ option_map hung_up before
+hung_so before after r closes stays Failed is = ap (option_map hung_up) (closes is) ∙ hung_twice before
+hung_so before after r closes stays NoMemory is = ap (option_map hung_up) (stays is)
 
-    pub door_wanting : CallsDoor n old new (Err stops.NoMemory)
-    door_wanting = record { only = inr refl; stays = stays; link = λ is. absurd (cc is); doors_later = a.never_falls; lines = a.other }
+pub door_called :
+    {N : Type 0} (n : NetGhosts N) (old new : N) (r : Result Unit Fault) → IsCounted (n.doors old) (n.doors new) (n.lines old) (n.lines new) r
+    → ((e : Fault) → r ≡ Err e → option_map hung_up (n.traffic new) ≡ option_map hung_up (n.traffic old)) → CallsDoor n old new (called r)
+door_called n old new (Ok u) a stays = record { only = tt; stays = tt; link = λ is. absurd (cc is); doors_later = a.never_falls; lines = a.other }
+door_called n old new (Err Failed) a stays = record { only = inl refl; stays = stays Failed refl; link = λ is. a.failed refl; doors_later = a.never_falls; lines = a.other }
+door_called n old new (Err NoMemory) a stays = record { only = inr refl; stays = stays NoMemory refl; link = λ is. absurd (cc is); doors_later = a.never_falls; lines = a.other }
 
 -- ---- with what is counted
 
@@ -142,10 +146,6 @@ only_told : (r : Result Unit Stop) (stop : Stop) → IfErr r (λ stop. (stop ≡
 only_told (Ok u) stop only is write memory = cc is
 only_told (Err e) stop (inl a) is write memory = let same : e ≡ stop = (cc is) in write (sym same ∙ a)
 only_told (Err e) stop (inr a) is write memory = let same : e ≡ stop = (cc is) in memory (sym same ∙ a)
-
-ok_up : (A : Type 0) (r : Result Unit Stop) → A → IfOk r (λ _. A)
-ok_up A (Ok u) a = a
-ok_up A (Err e) a = tt
 
 module _ {K N C S : Type 0} (k : KeeperGhosts K) (n : NetGhosts N) (c : ClockGhosts C) (s : SinkGhosts S) (number : ℕ) (v : Server K N C S) (begun : N)
     (after : Running K) (net : N) (clock : C) (opens : IfSome (n.traffic v.net) (λ t. Opens t (n.traffic begun))) (door : CallsDoor n v.net begun (Ok tt)) where
@@ -191,7 +191,7 @@ module _ {K N C S : Type 0} (k : KeeperGhosts K) (n : NetGhosts N) (c : ClockGho
       → IfErr r (λ stop. (stop ≡ stops.Write) ⊎ (stop ≡ stops.NoMemory)) → (IsErrOf r stops.Write → s.faults v.sink < s.faults sink) → s.faults v.sink ≤ s.faults sink
       → ServesOne k n c s number v (record { controller = after; net = net; clock = clock; sink = sink }) r
   told_goes served a sink r adds front only write sink_later = record {
-    up = ok_up (IsSome after.state) r a.up;
+    up = if_ok_any (IsSome after.state) r a.up;
     serves = λ p stands at.
         let o = next_opens p (outside n c s v) (n.traffic begun) at opens in
         told_so k v.controller.keeper after number p o.came o.rest o.opens (n.traffic net) (c.moments clock) served (a.answers p o.came o.rest stands o.net at.clock)

@@ -1,22 +1,20 @@
 -- Many connections, one after the other.
 use Rattle.std.proofs.Common.{◌≡◌, ◌⊎◌, ◌≤◌, ◌<◌, ◌+◌, ◌∙◌, inl, inr, refl, sym, ap, subst, ℕ, suc, Result, Ok, Err, arith}
 use Rattle.std.specs.Option.{option_map}
-use Rattle.std.specs.Prelude.{IsErrOf, IsSome}
+use Rattle.std.specs.Prelude.{IsSome}
 use Rattle.adr_io.specs.declared.Sink.{Ghosts as SinkGhosts}
-use Rattle.adr_disk.proofs.Moments.{joined, weakened}
-use Rattle.adr_disk.specs.Disk.{Among, LeavesOnly}
+use Rattle.adr_disk.specs.Disk.{Among}
 use Rattle.adr_outside.specs.Traffic.{hung_up}
 use Rattle.adr_outside.specs.declared.net.Net.{Ghosts as NetGhosts}
 use Rattle.adr_outside.specs.declared.clock.Clock.{Ghosts as ClockGhosts}
 use Rattle.adr_model.specs.Store.{State}
 use Rattle.adr_law_journal.specs.Areas.{Found, Started}
-use Rattle.adr_law_journal.proofs.Told.{at_told, if_told, is_some_of, some_of}
 use Rattle.adr_journal.specs.declared.keeper.Keeper.{Ghosts as KeeperGhosts}
 use Rattle.adr_controller.specs.Running.{IsInOrder, Running}
 use Rattle.adr_law_controller.specs.Keeping.{Stands}
 use Rattle.adr_session.specs.Talk.{Point}
 use Rattle.adr_session.specs.Told.{FindsNear}
-use Rattle.adr_session.proofs.Leaving.{Crashes, LeavesLaw, OnlyNowLaw, still_crashes}
+use Rattle.adr_law_controller.proofs.Crashes.{Crashes, LeavesLaw, OnlyNowLaw, crash_on, since, still_crashes}
 use Rattle.adr_online.specs.declared.ended.Stop.{Stop}
 use Rattle.adr_online.specs.declared.ended.Stop.TheVariants as stops
 use Rattle.adr_online.specs.Posts.{Post, Behind, Connects, FindsFrom, FindsWithin}
@@ -47,12 +45,7 @@ stops_there at fallen count n p q o less behind stop stops =
 module _ {K : Type 0} (k : KeeperGhosts K) where
   -- a fault of the disk is told from the keeper on that was there first
   pub fell_since : (first mid : K) → (IsSome (k.told first) → IsSome (k.told mid)) → (c : Running K) (x : Point) → HasFallen k mid x c → HasFallen k first x c
-  fell_since first mid told c x fell = (
-    fell.0,
-    if_told (k.told first) (λ _. Among (FindsNear x) (k.may_leave c.keeper)) (λ t tells.
-        let y = some_of (k.told mid) (told (is_some_of (k.told first) t tells)) in
-        at_told (k.told mid) (λ _. Among (FindsNear x) (k.may_leave c.keeper)) y.0 y.1 fell.1),
-  )
+  fell_since first mid told c x fell = (fell.0, since k first mid (Among (FindsNear x) (k.may_leave c.keeper)) told fell.1)
 
   -- where the loop stops
   pub stops_since : (first mid : K) → (IsSome (k.told first) → IsSome (k.told mid)) → (c : Running K) (count n : ℕ) (p q : Post) (o : Outside) → n < count → Behind n p q → (stop : Stop)
@@ -70,11 +63,8 @@ module _ {K : Type 0} (k : KeeperGhosts K) where
   pub crashes_further : (n m : ℕ) (p q : Post) (first mid new : K) → n ≤ m → Behind n p q → Crashes k first mid (FindsWithin n p) → (IsSome (k.told first) → IsSome (k.told mid))
       → Crashes k mid new (FindsFrom q) → Crashes k first new (FindsWithin m p)
   crashes_further n m p q first mid new le behind so_far told more =
-      if_told (k.told first) (λ _. LeavesOnly k.moment k.left_since first new (FindsWithin m p)) (λ t tells.
-      let y = some_of (k.told mid) (told (is_some_of (k.told first) t tells)) in
-      joined k.moment k.left_since first mid new (FindsWithin m p)
-      (weakened k.moment k.left_since first mid (FindsWithin n p) (FindsWithin m p) (λ s finds. (finds.0, finds.1, omega (arith, le, finds.2), finds.3, finds.4)) (at_told (k.told first) (λ _. LeavesOnly k.moment k.left_since first mid (FindsWithin n p)) t tells so_far))
-      (weakened k.moment k.left_since mid new (FindsFrom q) (FindsWithin m p) (λ s finds. (n, q, le, behind, finds)) (at_told (k.told mid) (λ _. LeavesOnly k.moment k.left_since mid new (FindsFrom q)) y.0 y.1 more)))
+      crash_on k first mid new (FindsWithin n p) (FindsFrom q) (FindsWithin m p) (λ s finds. (finds.0, finds.1, omega (arith, le, finds.2), finds.3, finds.4))
+      (λ s finds. (n, q, le, behind, finds)) so_far told more
 
 -- ---- with what is counted
 

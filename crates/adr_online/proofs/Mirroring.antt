@@ -5,7 +5,7 @@ use Rattle.adr_disk.specs.Disk.{Among}
 use Rattle.adr_outside.specs.declared.net.Net.{Ghosts as NetGhosts}
 use Rattle.adr_outside.specs.declared.clock.Clock.{Ghosts as ClockGhosts}
 use Rattle.adr_model.specs.Store.{State}
-use Rattle.adr_law_journal.specs.Areas.{Found, Started}
+use Rattle.adr_law_journal.specs.Areas.{Started}
 use Rattle.adr_law_journal.proofs.Told.{at_told, if_told}
 use Rattle.adr_node.specs.Begins.{StandsOn}
 use Rattle.adr_node.specs.Seen.{Seen, Mirrors}

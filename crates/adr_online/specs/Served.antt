@@ -1,12 +1,14 @@
 -- What is told of a server: where its node, its network, its clock and its lines stand.
-use Rattle.std.specs.Prelude.{◌≡◌, ◌⊎◌, ℕ, suc, ◌<◌, List, [], ◌∷◌, ◌++◌, take, true, false, Option, Some, None, IfSome, Result, Ok, Err}
+use Rattle.std.specs.Prelude.{◌≡◌, ◌⊎◌, ℕ, suc, ◌<◌, List, [], ◌∷◌, ◌++◌, take, Option, Some, None, IfSome, Result, Ok, Err}
 use Rattle.std.specs.Option.{option_map}
+use Rattle.adr_io.specs.declared.Fault.{Fault}
+use Rattle.adr_io.specs.declared.Fault.TheVariants as io
 use Rattle.adr_disk.specs.Disk.{Among}
 use Rattle.adr_model.specs.Store.{State}
 use Rattle.adr_law_journal.specs.Areas.{Found}
 use Rattle.adr_journal.specs.declared.keeper.Keeper.{Ghosts as KeeperGhosts}
 use Rattle.adr_controller.specs.Running.{Running}
-use Rattle.adr_outside.specs.Traffic.{Traffic, closed, hung_up, open_line}
+use Rattle.adr_outside.specs.Traffic.{Traffic, closed, hung_up}
 use Rattle.adr_session.specs.Talk.{Point, Reaches}
 use Rattle.adr_law_controller.specs.Keeping.{Stands}
 use Rattle.adr_session.specs.Told.{FindsNear, IsAtLine, IsNear}
@@ -72,6 +74,12 @@ AnswersAll k before p came rest (Err stops.NoMemory) c net clock =
     × ((y : Point) × IsNear x y × Stands k y.stands c)
 AnswersAll k before p came rest (Err stops.Write) c net clock = ⊥
 AnswersAll k before p came rest (Err stops.Link) c net clock = ⊥
+
+-- what a call of a door comes to
+abbrev pub called : Result Unit Fault → Result Unit Stop
+called (Ok u) = Ok u
+called (Err io.Failed) = Err stops.Link
+called (Err io.NoMemory) = Err stops.NoMemory
 
 -- how it ended once it was hung up, or why the server stops
 abbrev pub stopped : Result Served ServeFault → Result Served Stop

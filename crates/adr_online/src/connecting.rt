@@ -3,7 +3,7 @@
 ghost use Rattle.std.specs.Prelude.{◌≡◌, IfSome, IsSome, OnOk};
 ghost use Rattle.adr_outside.specs.Traffic.{Opens};
 ghost use Rattle.adr_law_controller.specs.Keeping.{KeepsLog};
-ghost use Rattle.adr_online.specs.Served.{stopped};
+ghost use Rattle.adr_online.specs.Served.{called, stopped};
 ghost use Rattle.adr_online.specs.Goes.{Answers, CallsDoor, ServesOne, ServesSo};
 
 use crate::ended::Stop;
@@ -13,16 +13,23 @@ use adr_outside::{Clock, Net};
 use adr_session::{Controller, Keeper, ServeFault, Served, serve_one};
 use std::alloc::Global;
 
+/// What a call of a door comes to.
+pub(crate) fn called(door: Result<(), Fault>) -> Result<(), Stop>
+    ensures { result ≡ called door }
+{
+    match door {
+        Ok(()) => Ok(()),
+        Err(Fault::Failed) => Err(Stop::Link),
+        Err(Fault::NoMemory) => Err(Stop::NoMemory),
+    }
+}
+
 /// Opens the next connection.
 fn accept<N: Net>(net: &mut N) -> Result<(), Stop>
     ensures opens { OnOk result (IfSome (N.traffic net.old) (λ before. Opens before (N.traffic net.new))) }
     ensures calls { CallsDoor N.Net net.old net.new result }
 {
-    match net.accept() {
-        Ok(()) => Ok(()),
-        Err(Fault::Failed) => Err(Stop::Link),
-        Err(Fault::NoMemory) => Err(Stop::NoMemory),
-    }
+    called(net.accept())
 }
 
 /// How a connection ended that was hung up, or why the server stops.

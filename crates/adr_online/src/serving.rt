@@ -6,12 +6,12 @@ ghost use Rattle.adr_node.specs.Seen.{of_disk};
 ghost use Rattle.adr_online.specs.Goes.{CallsDoor, ServesSo};
 ghost use Rattle.adr_online.specs.Serves.{Serves, ServesOn, online_of, unserved};
 
-use crate::connecting::serve_all;
+use crate::connecting::{called, serve_all};
 use crate::ended::{Online, Stop};
 use adr_call::Text;
 use adr_controller::{Controller, Keeper};
 use adr_disk::Disk;
-use adr_io::{Fault, Sink};
+use adr_io::Sink;
 use adr_law_controller::logs_keep;
 use adr_node::{Unbegun, begin};
 use adr_outside::{Clock, Net};
@@ -36,11 +36,7 @@ fn listen<N: Net>(port: u16, net: &mut N) -> Result<(), Stop>
     ensures stays { N.traffic net.new ≡ N.traffic net.old }
     ensures calls { CallsDoor N.Net net.old net.new result }
 {
-    match net.listen(port) {
-        Ok(()) => Ok(()),
-        Err(Fault::Failed) => Err(Stop::Link),
-        Err(Fault::NoMemory) => Err(Stop::NoMemory),
-    }
+    called(net.listen(port))
 }
 
 /// How a command ends that had no controller to begin with.

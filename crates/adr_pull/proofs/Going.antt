@@ -4,9 +4,8 @@ use Rattle.std.specs.Prelude.{◌↔◌}
 use Rattle.std.specs.Option.{option_map}
 use Rattle.std.proofs.Math.Seq.{take-append-add, take-append_seam}
 use Rattle.std.specs.Bool.{then_some}
-use Rattle.adr_disk.specs.Disk.{Among, LeavesOnly}
-use Rattle.adr_disk.proofs.Moments.{joined, weakened}
-use Rattle.adr_disk.proofs.Told.{if_told, at_told, some_of, is_some_of}
+use Rattle.adr_disk.specs.Disk.{Among}
+use Rattle.adr_disk.proofs.Told.{if_told, at_told, is_some_of}
 use Rattle.adr_law_journal.specs.Areas.{Started}
 use Rattle.adr_law_journal.specs.Kept.{FindsState}
 use Rattle.adr_model.specs.Store.{State}
@@ -22,7 +21,7 @@ use Rattle.adr_pull.specs.Fetch.{Course, Ends, Over, Refused, BadPeer, Made, Poi
 use Rattle.adr_law_controller.specs.Keeping.{Stands}
 use Rattle.adr_pull.specs.Told.{EndsSo, FindsBehind, FindsNear, FindsTold, Goes, HasFailed, IsAsking, IsAt, IsBehind, IsBetween, IsTelling, Meets, TakesTurn, Within}
 use Rattle.adr_pull.proofs.Cycling.{ended_by, further, none_yet}
-use Rattle.adr_pull.proofs.Taking.{Keeps}
+use Rattle.adr_law_controller.proofs.Crashes.{Crashes, LeavesLaw, crash_by, crash_on, finds_here, since}
 
 pub behind_at : {K : Type 0} (k : Ghosts K) (t : Traffic) (p : Point) (c : Running K) (net : Option Traffic)
     (lines : Option (List ℕ)) → IsAt k t p c net lines → IsBehind k t p c net lines
@@ -90,23 +89,17 @@ module _ {K : Type 0} (k : Ghosts K) (t : Traffic) (name : List ℕ) (partner : 
       goes_err faults.Disk turns = within_so (λ p q. HasFailed k t p q c net lines) turns
       goes_err faults.MoreWaiting turns = absurd turns
 
-    -- a crash so far, and in one request more
-    pub crash_more : (old mid new : K) → IfSome (k.told old) (λ _. LeavesOnly k.moment k.left_since old mid (FindsBehind course))
-        → (IsSome (k.told mid) ↔ IsSome (k.told old))
-        → IfSome (k.told mid) (λ _. LeavesOnly k.moment k.left_since mid new (FindsNear (course n).0
-        (turn name partner (course n).0).0))
-        → IfSome (k.told old) (λ _. LeavesOnly k.moment k.left_since old new (FindsBehind course))
-    crash_more old mid new first still second =
-        if_told (k.told old) (λ _. LeavesOnly k.moment k.left_since old new (FindsBehind course)) (λ x is.
-        let y = some_of (k.told mid) (still.1 (is_some_of (k.told old) x is)) in
-        joined k.moment k.left_since old mid new (FindsBehind course) (at_told (k.told old) _ x is first)
-        (weakened k.moment k.left_since mid new (FindsNear (course n).0 (turn name partner (course n).0).0)
-        (FindsBehind course) near
-        (at_told (k.told mid) _ y.0 y.1 second)))
-      where
-        near : (x : Started State) → FindsNear (course n).0 (turn name partner (course n).0).0 x → FindsBehind course x
-        near x (inl here) = (n, here)
-        near x (inr there) = (suc n, subst (λ (c : Course). FindsState c.0.stands.state x) (sym next) there)
+  -- a crash so far, and in one request more
+  pub crash_more : (n : ℕ) {c : Running K} {net : Option Traffic} {lines : Option (List ℕ)} → GoesOn n c net lines → (old new : K)
+      → Crashes k old c.keeper (FindsBehind course) → (IsSome (k.told c.keeper) ↔ IsSome (k.told old))
+      → ((q : Point) → IsAt k t q c net lines → Crashes k c.keeper new (FindsNear q (turn name partner q).0)) → Crashes k old new (FindsBehind course)
+  crash_more n {c} on old new first still second =
+      crash_on k old c.keeper new (FindsBehind course) (FindsNear (course n).0 (turn name partner (course n).0).0) (FindsBehind course) (λ x finds. finds) near first still.1
+      (second (course n).0 on.at)
+    where
+      near : (x : Started State) → FindsNear (course n).0 (turn name partner (course n).0).0 x → FindsBehind course x
+      near x (inl here) = (n, here)
+      near x (inr there) = (suc n, subst (λ (c : Course). FindsState c.0.stands.state x) (sym (further name partner n p on.none)) there)
 
   -- as many as there may be, and it hasn't ended
   pub goes_waiting : (n most : ℕ) (c : Running K) (net : Option Traffic) (lines : Option (List ℕ)) → n ≡ most
@@ -161,14 +154,8 @@ module _ {K : Type 0} (k : Ghosts K) (t : Traffic) (name : List ℕ) (p : Point)
     pub finds_later : (x : Started State) → FindsBehind (λ n. fetch name partner n after_greeting) x → FindsBehind all x
     finds_later x finds = (suc finds.0, subst (λ (c : Course). FindsState c.0.stands.state x) (sym (later finds.0)) finds.1)
 
-    pub leaves_later : (old new : K)
-        → IfSome (k.told old)
-        (λ _. LeavesOnly k.moment k.left_since old new (FindsBehind (λ n. fetch name partner n after_greeting)))
-        → IfSome (k.told old) (λ _. LeavesOnly k.moment k.left_since old new (FindsBehind all))
-    leaves_later old new leaves =
-        if_told (k.told old) (λ _. LeavesOnly k.moment k.left_since old new (FindsBehind all)) (λ x is.
-        weakened k.moment k.left_since old new (FindsBehind (λ n. fetch name partner n after_greeting))
-        (FindsBehind all) finds_later (at_told (k.told old) _ x is leaves))
+    pub leaves_later : (old new : K) → Crashes k old new (FindsBehind (λ n. fetch name partner n after_greeting)) → Crashes k old new (FindsBehind all)
+    leaves_later old new leaves = crash_by k old new (FindsBehind (λ n. fetch name partner n after_greeting)) (FindsBehind all) finds_later leaves
 
     pub greeted_at : (c : Running K) (net : Option Traffic) (lines : Option (List ℕ)) → Stands k p.stands c
         → net ≡ Some (moved Before rest (frame greeting)) → lines ≡ Some p.written
@@ -218,7 +205,7 @@ between_front first bytes last (more, n, whole, front) = (
 all_front : (bytes : List ℕ) → (m : ℕ) × (bytes ≡ take m bytes)
 all_front bytes = (length bytes, sym (take_all (length bytes) bytes (omega arith)))
 
-module _ {K : Type 0} (k : Ghosts K) (law : Keeps k) (t : Traffic) (go : ℕ → Course) (most : ℕ) (c : Running K)
+module _ {K : Type 0} (k : Ghosts K) (leaves : LeavesLaw k) (t : Traffic) (go : ℕ → Course) (most : ℕ) (c : Running K)
     (net : Option Traffic) (lines : Option (List ℕ)) (order : IsInOrder k c) where
   abbrev pub IsKept : Type 0
   IsKept = IfSome (k.told c.keeper) (λ _. Among (FindsTold go lines) (k.may_leave c.keeper))
@@ -226,10 +213,7 @@ module _ {K : Type 0} (k : Ghosts K) (law : Keeps k) (t : Traffic) (go : ℕ →
   -- the same, by what was told before
   pub kept_from : (old : K) → (IsSome (k.told c.keeper) ↔ IsSome (k.told old)) → IsKept → IfSome (k.told old)
       (λ _. Among (FindsTold go lines) (k.may_leave c.keeper))
-  kept_from old still kept =
-      if_told (k.told old) (λ _. Among (FindsTold go lines) (k.may_leave c.keeper)) (λ x is.
-      let there = some_of (k.told c.keeper) (still.1 (is_some_of (k.told old) x is)) in
-      at_told (k.told c.keeper) _ there.0 there.1 kept)
+  kept_from old still kept = since k old c.keeper (Among (FindsTold go lines) (k.may_leave c.keeper)) still.1 kept
 
   -- what was written is a front of the lines behind so many exchanges
   abbrev IsFront : ℕ → Type 0
@@ -245,11 +229,7 @@ module _ {K : Type 0} (k : Ghosts K) (law : Keeps k) (t : Traffic) (go : ℕ →
       if_told (k.told c.keeper) (λ _. Among (FindsTold go lines) (k.may_leave c.keeper)) (λ x is. λ left may. (
         n,
         front,
-        (
-          (go n).0.stands.log,
-          law.leaves c.keeper (go n).0.stands left node.1 (order.up
-              (go n).0.stands.state node.0).0.running (is_some_of (k.told c.keeper) x is) may,
-        ),
+        finds_here k leaves (go n).0.stands c node order (is_some_of (k.told c.keeper) x is) left may,
       ))
 
   ended_kept : (ends : Option Ends) → EndsSo k t (go most) ends c net lines → IsKept

@@ -13,9 +13,9 @@ use Rattle.adr_pull.specs.declared.came.Came.{Came}
 use Rattle.adr_pull.specs.declared.fault.PullFault.{PullFault}
 use Rattle.adr_pull.specs.declared.fault.PullFault.TheVariants as faults
 use Rattle.adr_pull.specs.Fetch.{Made, Said, made, refused, said_in}
+use Rattle.adr_law_controller.proofs.Crashes.{LeavesLaw, OnlyNowLaw, still_crashes}
 use Rattle.adr_law_controller.specs.Keeping.{Stands}
 use Rattle.adr_pull.specs.Told.{FindsDue, ReactsSo}
-use Rattle.adr_pull.proofs.Taking.{Keeps, still_leaves}
 
 pub says_refusal : (bytes body : List ℕ) (kind : ℕ) → bytes ≡ kind ∷ body → kind ≡ 3 → said_in bytes ≡ refused
     (decoded_refusal body)
@@ -27,9 +27,9 @@ before_due f None x here = here
 before_due f (Some m) x here = inl here
 
 -- so does a crash where nothing has changed
-pub still_due : {K : Type 0} (k : Ghosts K) (law : Keeps k) (f : Found State) (c : Running K) → Stands k f c → IsInOrder k c → (due : Option Made)
+pub still_due : {K : Type 0} (k : Ghosts K) (leaves : LeavesLaw k) (only_now : OnlyNowLaw k) (f : Found State) (c : Running K) → Stands k f c → IsInOrder k c → (due : Option Made)
     → IfSome (k.told c.keeper) (λ _. LeavesOnly k.moment k.left_since c.keeper c.keeper (FindsDue f due))
-still_due k law f c stands order due = still_leaves k law f c stands order c (FindsDue f due) refl (before_due f due)
+still_due k leaves only_now f c stands order due = still_crashes k leaves only_now (FindsDue f due) f c stands order (before_due f due)
 
 -- a refusal was told, or what came was strange
 pub refusal_reacts : {K : Type 0} (k : Ghosts K) (f : Found State) (c : Running K) → Stands k f c →

@@ -1,8 +1,7 @@
 -- What a reply makes of a node, by what the controller's call says.
-use Rattle.std.proofs.Common.{◌≡◌, ◌⊎◌, ◌<◌, inl, inr, ⊎_elim, Bool, true, false, Option, Some, None, IfOk, IfSome, IsSome, Result, Ok, Err, refl, sym, ap, ◌∙◌, subst, arith, cond}
+use Rattle.std.proofs.Common.{◌≡◌, ◌⊎◌, ◌<◌, inl, inr, ⊎_elim, Bool, true, false, Option, Some, None, IfOk, IsSome, Result, Ok, Err, refl, sym, ap, ◌∙◌, subst, cond}
 use Rattle.std.specs.Bool.{then_some}
-use Rattle.adr_disk.specs.Disk.{Among, LeavesOnly}
-use Rattle.adr_disk.proofs.Moments.{started}
+use Rattle.adr_disk.specs.Disk.{Among}
 use Rattle.adr_disk.proofs.Told.{if_told, at_told, some_of, is_some_of}
 use Rattle.adr_call.specs.declared.refusal.TakeRefusal.{TakeRefusal}
 use Rattle.adr_call.specs.declared.refusal.Table.TheVariants.{Log}
@@ -13,15 +12,16 @@ use Rattle.adr_model.specs.Refused.{full, take_refused}
 use Rattle.adr_model.specs.Serve.{Reply}
 use Rattle.adr_model.specs.Store.{State}
 use Rattle.adr_model.specs.Take.{take}
-use Rattle.adr_law_journal.specs.Areas.{Found, Started}
-use Rattle.adr_law_journal.specs.Kept.{FindsState, FindsEither}
+use Rattle.adr_law_journal.specs.Areas.{Found}
+use Rattle.adr_law_journal.specs.Kept.{FindsEither}
 use Rattle.adr_journal.specs.Ended.{found_after}
 use Rattle.adr_journal.specs.declared.keeper.Keeper.{Ghosts}
 use Rattle.adr_controller.specs.declared.refusal.Hindrance.{Hindrance}
 use Rattle.adr_controller.specs.declared.refusal.Hindrance.TheVariants.{Down, Failed, Full, DiskFault, NoMemory}
 use Rattle.adr_controller.specs.Able.{change_of_taken, reply_shows, taken_in}
 use Rattle.adr_controller.specs.Running.{Running, IsInOrder}
-use Rattle.adr_controller.specs.Did.{Calls, Commits, KeepsAll}
+use Rattle.adr_controller.specs.Did.{Calls, Commits}
+use Rattle.adr_law_controller.proofs.Crashes.{Crashes, LeavesLaw, OnlyNowLaw, call_failed, call_finds}
 use Rattle.adr_pull.specs.declared.came.Came.{Came}
 use Rattle.adr_pull.specs.declared.came.Came.TheVariants.{Declined}
 use Rattle.adr_pull.specs.declared.fault.PullFault.{PullFault}
@@ -29,44 +29,6 @@ use Rattle.adr_pull.specs.declared.fault.PullFault.TheVariants as faults
 use Rattle.adr_pull.specs.Fetch.{Made, committed, declines, taken, took}
 use Rattle.adr_law_controller.specs.Keeping.{Stands}
 use Rattle.adr_pull.specs.Told.{FindsDue, HasFallen, IsHindered, ReactsSo}
-
--- the laws of a keeper
-pub record Keeps {K : Type 0} (k : Ghosts K) : Type 0 where
-  pub leaves : (keeper : K) (f : Found State) (t : Started State) → k.is_at keeper f → k.is_failed keeper ≡ false
-      → IsSome (k.told keeper) → k.may_leave keeper t → t ≡ Ok f
-  pub only_now : (keeper : K) (t : Started State) → k.left_since keeper (k.moment keeper) t → k.may_leave keeper t
-
-pub if_ok_at : {X Y : Type 0} (P : X → Type 0) (r : Result X Y) (x : X) → r ≡ Ok x → IfOk r P → P x
-if_ok_at P r x is p = subst (λ r. IfOk r P) is p
-
-module _ {K : Type 0} (k : Ghosts K) (law : Keeps k) (f : Found State) (old : Running K) (stands : Stands k f old)
-    (order : IsInOrder k old) where
-  abbrev pub Leaves : Running K → (Started State → Type 0) → Type 0
-  Leaves new P = IfSome (k.told old.keeper) (λ _. LeavesOnly k.moment k.left_since old.keeper new.keeper P)
-
-  -- what a start finds of a controller that is up is its state
-  finds : IsSome (k.told old.keeper) → (x : Started State) → k.may_leave old.keeper x → FindsState f.state x
-  finds told x left = (f.log, law.leaves old.keeper f x stands.1 (order.up f.state stands.0).0.running told left)
-
-  -- nothing has changed
-  pub still_leaves : (new : Running K) (P : Started State → Type 0) → new ≡ old → ((x : Started State)
-      → FindsState f.state x → P x) → Leaves new P
-  still_leaves new P same says =
-      subst (λ (c : Running K). Leaves c P) (sym same)
-      (if_told (k.told old.keeper) (λ _. LeavesOnly k.moment k.left_since old.keeper old.keeper P) (λ t is.
-      started k.moment k.left_since old.keeper P (λ x left. says x (finds (is_some_of (k.told old.keeper) t is) x
-      (law.only_now old.keeper x left)))))
-
-  -- or nothing of what a start finds
-  wanted_leaves : (new : Running K) (P : Started State → Type 0) → KeepsAll k old.keeper new.keeper →
-      ((x : Started State) → FindsState f.state x → P x) → Leaves new P
-  wanted_leaves new P keeps says =
-      if_told (k.told old.keeper) (λ _. LeavesOnly k.moment k.left_since old.keeper new.keeper P) (λ t is. record {
-        later = omega (arith, keeps.moment_stays);
-        each = λ x left. says x (finds (is_some_of (k.told old.keeper) t is) x (law.only_now old.keeper x
-            (keeps.past_stays (k.moment old.keeper) x left)));
-        before = λ n x le left. inl (keeps.past_stays n x left);
-      })
 
 module _ {K : Type 0} (k : Ghosts K) (f : Found State) (r : Reply) (old new : Running K) (how : Option Hindrance)
     (calls : Calls k (taken_in r) old new how) (stands : Stands k f old) where
@@ -163,15 +125,10 @@ module _ {K : Type 0} (k : Ghosts K) (r : Reply) (old new : Running K) (how : Op
   hindered_up Down is result so = absurd so
   hindered_up Failed is result so = absurd so
 
-  disk_failed : how ≡ Some DiskFault → (s : State) → old.state ≡ Some s → (m : Option Change) → taken_in r s ≡ m
-      → k.faults old.keeper < k.faults new.keeper
-  disk_failed is s there None none = absurd (⊎_elim (λ so. cc (is, so)) (λ so. cc (is, so)) (calls.idle s there none))
-  disk_failed is s there (Some c) makes = ((calls.commits s c there makes).fault is).1
-
   pub hindered_disk : (h : Hindrance) → how ≡ Some h → (result : Result Came PullFault) → IsHindered h result
       → result ≡ Err faults.Disk → k.faults old.keeper < k.faults new.keeper
   hindered_disk Full is result so failed = absurd (cc (so, failed))
-  hindered_disk DiskFault is result so failed = let s = some_of old.state up in disk_failed is s.0 s.1 (taken_in r s.0) refl
+  hindered_disk DiskFault is result so failed = let s = some_of old.state up in call_failed k (taken_in r) old new how calls s.0 s.1 is
   hindered_disk NoMemory is result so failed = absurd (cc (so, failed))
   hindered_disk Down is result so failed = absurd so
   hindered_disk Failed is result so failed = absurd so
@@ -300,35 +257,11 @@ module _ {K : Type 0} (k : Ghosts K) (f : Found State) (r : Reply) (old new : Ru
   hindered_so Failed is result so = absurd so
 
   -- and what a start finds meanwhile
-  module _ (law : Keeps k) (order : IsInOrder k old) where
-    abbrev Near : Started State → Type 0
-    Near = FindsDue f (Some due)
-
-    as_before : (x : Started State) → FindsState f.state x → Near x
-    as_before x is = inl is
-
-    by_commit : (c : Change) → taken_in r f.state ≡ Some c → change_fits f.log f.state.store c ≡ true
-        → Commits k f.state c old new how
-        → Leaves k law f old stands order new Near
-    by_commit c makes fits did =
-        let d = due_so f r (take f.state r) c makes in
-        let is : due ≡ (found_after f c, d.0) = d.1 ∙ committed_so f c d.0 fits in
-        if_told (k.told old.keeper) _ (λ t told.
-        subst (λ (m : Made). LeavesOnly k.moment k.left_since old.keeper new.keeper (FindsDue f (Some m))) (sym is)
-        (at_told (k.told old.keeper) _ t told did.any_moment))
-
-    by_change : (c : Change) → taken_in r f.state ≡ Some c → (h : Option Hindrance) → how ≡ h
-        → Commits k f.state c old new how → Leaves k law f old stands order new Near
-    by_change c makes None is did = by_commit c makes (did.within (inl is) f.log stands.1) did
-    by_change c makes (Some DiskFault) is did = by_commit c makes (did.within (inr is) f.log stands.1) did
-    by_change c makes (Some Full) is did = still_leaves k law f old stands order new Near (did.full is) as_before
-    by_change c makes (Some NoMemory) is did = wanted_leaves k law f old stands order new Near (did.no_memory is).1 as_before
-    by_change c makes (Some Down) is did = absurd (cc (calls.down.0 is, (order.up f.state stands.0).1))
-    by_change c makes (Some Failed) is did = absurd (cc ((calls.failed.0 is).1, stands.0))
-
-    pub take_leaves : Leaves k law f old stands order new Near
-    take_leaves = by (taken_in r f.state) refl
-      where
-        by : (m : Option Change) → taken_in r f.state ≡ m → Leaves k law f old stands order new Near
-        by None none = still_leaves k law f old stands order new Near (calls.unchanged f.state stands.0 none) as_before
-        by (Some c) makes = by_change c makes how refl (calls.commits f.state c stands.0 makes)
+  pub take_leaves : LeavesLaw k → OnlyNowLaw k → IsInOrder k old → Crashes k old.keeper new.keeper (FindsDue f (Some due))
+  take_leaves leaves only_now order =
+      (call_finds k (taken_in r) old new how calls leaves only_now order f stands (FindsDue f (Some due)) (λ x finds. inl finds) near).0
+    where
+      near : (c : Change) → taken_in r f.state ≡ Some c → change_fits f.log f.state.store c ≡ true → Among (FindsDue f (Some due)) (FindsEither f.state (after f.state c))
+      near c makes fits x finds =
+          let d = due_so f r (take f.state r) c makes in
+          subst (λ (m : Made). FindsDue f (Some m) x) (sym (d.1 ∙ committed_so f c d.0 fits)) finds

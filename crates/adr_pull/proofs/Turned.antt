@@ -1,10 +1,7 @@
 -- One request of a cycle, by what its steps say.
-use Rattle.std.proofs.Common.{◌≡◌, ◌⊎◌, inl, inr, ℕ, Bool, List, ◌++◌, take, length, Option, Some, None, IfSome, Result, Ok, Err, refl, sym, ap, ◌∙◌, subst, arith, take_all}
+use Rattle.std.proofs.Common.{◌≡◌, ◌⊎◌, inl, inr, ℕ, Bool, List, ◌++◌, take, length, Option, Some, None, Result, Ok, Err, refl, sym, ap, ◌∙◌, subst, arith, take_all}
 use Rattle.std.specs.Option.{option_map}
 use Rattle.adr_io.specs.Told.{Adds, AddsFront}
-use Rattle.adr_disk.specs.Disk.{LeavesOnly}
-use Rattle.adr_disk.proofs.Moments.{weakened}
-use Rattle.adr_disk.proofs.Told.{if_told, at_told}
 use Rattle.adr_law_journal.specs.Areas.{Started}
 use Rattle.adr_model.specs.Store.{State}
 use Rattle.adr_model.specs.Update.{Identifier}
@@ -17,6 +14,7 @@ use Rattle.adr_pull.specs.declared.fault.PullFault.{PullFault}
 use Rattle.adr_pull.specs.declared.fault.PullFault.TheVariants as faults
 use Rattle.adr_pull.specs.Exchange.{HasSentFront, heard_in, moved}
 use Rattle.adr_pull.specs.Fetch.{Course, BadPeer, Made, Point, ends_of, hears, line_of, made, request, said_in, sends, tells, turn}
+use Rattle.adr_law_controller.proofs.Crashes.{Crashes, crash_by}
 use Rattle.adr_law_controller.specs.Keeping.{Stands}
 use Rattle.adr_pull.specs.Told.{Fails, FindsDue, FindsNear, IsAsking, IsAt, IsBetween, IsEnd, IsTelling, ReactsSo, TakesTurn}
 
@@ -109,17 +107,11 @@ module _ {K : Type 0} (k : Ghosts K) (t : Traffic) (name : List ℕ) (partner : 
     pub near : (x : Started State) → FindsDue p.stands due x → FindsNear p Next.0 x
     near = due_near due refl
 
-    pub leaves_near : (old new : K) (xs : List ℕ) → xs ≡ bytes
-        → IfSome (k.told old) (λ _. LeavesOnly k.moment k.left_since old new (FindsDue p.stands (option_map
-        (made p.stands) (said_in xs))))
-        → IfSome (k.told old) (λ _. LeavesOnly k.moment k.left_since old new (FindsNear p Next.0))
+    pub leaves_near : (old new : K) (xs : List ℕ) → xs ≡ bytes → Crashes k old new (FindsDue p.stands (option_map (made p.stands) (said_in xs)))
+        → Crashes k old new (FindsNear p Next.0)
     leaves_near old new xs is leaves =
-        let P : List ℕ → Type 0 = λ ys. IfSome (k.told old) (λ _. LeavesOnly k.moment k.left_since old new
-        (FindsDue p.stands (option_map (made p.stands) (said_in ys)))) in
-        if_told (k.told old) (λ _. LeavesOnly k.moment k.left_since old new (FindsNear p Next.0)) (λ x told.
-        weakened k.moment k.left_since old new (FindsDue p.stands due) (FindsNear p Next.0) near
-        (at_told (k.told old) (λ _. LeavesOnly k.moment k.left_since old new (FindsDue p.stands due)) x told
-        (subst P is leaves)))
+        let P : List ℕ → Type 0 = λ ys. Crashes k old new (FindsDue p.stands (option_map (made p.stands) (said_in ys))) in
+        crash_by k old new (FindsDue p.stands due) (FindsNear p Next.0) near (subst P is leaves)
 
     module _ (net : Option Traffic) (came_in : net ≡ Some (moved Here rest asked)) where
       -- the frame wasn't due, or the node couldn't say

@@ -1,5 +1,5 @@
 -- A cycle with one reply.
-use Rattle.std.proofs.Common.{◌≡◌, ℕ, Bool, true, eqb, cond, List, [], ◌∷◌, ◌++◌, ◌&&◌, length, Option, Some, None, Result, Ok, refl, sym, ap, ◌∙◌, arith}
+use Rattle.std.proofs.Common.{◌≡◌, ℕ, Bool, true, List, ◌∷◌, ◌++◌, length, Option, Some, Result, Ok, ap, ◌∙◌, arith}
 use Rattle.std.specs.Bool.{then_some}
 use Rattle.std.specs.Option.{option_map}
 use Rattle.std.proofs.lemmas.Bool.{eq-eqb}
@@ -15,8 +15,8 @@ use Rattle.adr_journal.specs.Ended.{found_after}
 use Rattle.adr_packet.specs.Replies.{IsReply, decoded_reply, reply_bytes}
 use Rattle.adr_frames.specs.Frames.{IsFrame, IsFrameLength, Next, frame, next_in}
 use Rattle.adr_pull.specs.Exchange.{heard_in, heard_of}
-use Rattle.adr_pull.specs.Fetch.{Course, Made, Point, Replies, fetch, greeting, hears, made, meets, met, partner_in, pulled, replied, request, said_in, sends, taken, tells, took, turn}
-use Rattle.adr_pull.specs.Worked.{IsWorked, at_first, at_last}
+use Rattle.adr_pull.specs.Fetch.{Course, Made, Point, greeting, hears, made, meets, met, partner_in, pulled, replied, request, said_in, sends, taken, tells, took, turn}
+use Rattle.adr_pull.specs.Worked.{at_first, at_last}
 use Rattle.adr_pull.proofs.Cycling.{further, none_yet}
 use Rattle.adr_pull.proofs.Taking.{committed_so}
 

@@ -1,6 +1,6 @@
 -- What calls are answered is where their changes lead, and what is told of them.
 use Rattle.std.proofs.Common.{◌≡◌, ◌∙◌, sym, ap, subst, refl, ℕ, List, ◌∷◌, length, Option, Result, Ok, Err}
-use Rattle.std.specs.Prelude.{IfOk, IsSome}
+use Rattle.std.specs.Prelude.{IsSome}
 use Rattle.adr_call.specs.declared.outcome.Outcome.TheVariants as outcomes
 use Rattle.adr_call.specs.declared.refusal.CollectRefusal.{CollectRefusal}
 use Rattle.adr_call.specs.declared.refusal.ServeRefusal.{ServeRefusal}
@@ -27,17 +27,13 @@ use Rattle.adr_law_controller.specs.Keeping.{Stands}
 use Rattle.adr_session.specs.Lines.{collected, done, written}
 use Rattle.adr_session.specs.Talk.{did, refused, replies, told}
 use Rattle.adr_session.specs.Made.{led, Makes, Tells}
-use Rattle.adr_session.proofs.Leaving.{LeavesLaw, OnlyNowLaw}
+use Rattle.adr_law_controller.proofs.Crashes.{LeavesLaw, OnlyNowLaw}
 use Rattle.adr_session.proofs.Making.{makes}
 
 -- ---- what is told
 
 pub tells_at : {V : Type 0} (items : V → List ℕ) (said full : List ℕ) (how h : Option Hindrance) (r x : Result V ServeFault) → how ≡ h → r ≡ x → Tells items said full h x → Tells items said full how r
 tells_at {V} items said full how h r x e d t = subst (λ (h : Option Hindrance). Tells items said full h r) (sym e) (subst (λ (r : Result V ServeFault). Tells items said full h r) (sym d) t)
-
--- the value of an answer that is this
-pub ok_is : {T E : Type 0} (r : Result T E) (x : T) (P : T → Type 0) → r ≡ Ok x → IfOk r P → P x
-ok_is {T} {E} r x P is holds = subst (λ (r : Result T E). IfOk r P) is holds
 
 -- ---- deeds
 

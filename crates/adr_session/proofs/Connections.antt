@@ -11,9 +11,9 @@ use Rattle.adr_session.specs.declared.ending.Served.{Served}
 use Rattle.adr_session.specs.declared.ending.ServeFault.{ServeFault}
 use Rattle.adr_session.specs.declared.ending.ServeFault.TheVariants as faults
 use Rattle.adr_session.specs.Talk.{Point, Hung, Malformed, Reaches, message_limit}
-use Rattle.adr_session.specs.Told.{Behind, EndsSo, FindsNear, HasSent, IsAt, LeavesBehind, ServedTo, Serves, TakesTurn}
-use Rattle.adr_session.proofs.Talking.{ends_at, further}
-use Rattle.adr_session.proofs.Leaving.{finds_here, LeavesLaw}
+use Rattle.adr_session.specs.Told.{Behind, EndsSo, FindsBehind, FindsNear, HasSent, IsAt, LeavesBehind, ServedTo, Serves, TakesTurn}
+use Rattle.adr_session.proofs.Talking.{ends_at, further, near_behind}
+use Rattle.adr_law_controller.proofs.Crashes.{Crashes, LeavesLaw, crash_on, finds_here}
 
 module _ {K : Type 0} (k : Ghosts K) (t : Traffic) (p : Point) (n : ℕ) (c : Running K) (net : Option Traffic) (moments : Option (List ℕ)) where
   pub serves_err :
@@ -80,6 +80,13 @@ pub left_all :
     → LeavesLaw k → IsInOrder k c → IsSome (k.told c.keeper) → Behind n p (λ q. IsAt k t q c net moments) → LeavesBehind k t p (Ok (record { messages = message_limit; end = ended.Limit })) c net
 left_all k t p c net moments n is leaves in_order tells b =
     (b.0, subst (λ (m : ℕ). Reaches m p b.0) is b.1, (b.0, refl, (b.2.stands.0, finds_here k leaves b.0.stands c b.2.stands in_order tells)))
+
+-- a crash so far, and in one message more
+pub crash_more :
+    {K : Type 0} (k : Ghosts K) (n : ℕ) (p : Point) (at : Point → Type 0) (old mid new : K) → Behind n p at → Crashes k old mid (FindsBehind p) → (IsSome (k.told old) → IsSome (k.told mid))
+    → ((q : Point) → at q → Crashes k mid new (FindsNear q)) → Crashes k old new (FindsBehind p)
+crash_more k n p at old mid new b first still second =
+    crash_on k old mid new (FindsBehind p) (FindsNear b.0) (FindsBehind p) (λ s finds. finds) (near_behind n p b.0 b.1) first still (second b.0 b.2)
 
 -- a turn that went on met no fault of the line
 pub not_cut :

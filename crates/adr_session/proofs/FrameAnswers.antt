@@ -1,12 +1,10 @@
 -- What a frame comes to, by what it says.
-use Rattle.std.proofs.Common.{◌≡◌, inl, ◌∙◌, sym, ap, subst, refl, ℕ, false, List, Option, Some, None, IfSome, IsSome, Result, Ok, Err, arith}
+use Rattle.std.proofs.Common.{◌≡◌, inl, ◌∙◌, sym, ap, subst, refl, ℕ, List, Option, Some, None, IfSome, IsSome, Result, Ok, Err, arith}
 use Rattle.std.specs.Prelude.{IfOk}
-use Rattle.adr_disk.specs.Disk.{Among, LeavesOnly}
-use Rattle.adr_disk.proofs.Moments.{started}
 use Rattle.adr_model.specs.Store.{State}
-use Rattle.adr_law_journal.specs.Areas.{Found, found, Started}
-use Rattle.adr_law_journal.specs.Kept.{FindsEither, FindsState}
-use Rattle.adr_law_journal.proofs.Told.{at_told, if_told, is_some_of}
+use Rattle.adr_law_journal.specs.Areas.{Found}
+use Rattle.adr_law_journal.specs.Kept.{FindsEither}
+use Rattle.adr_law_journal.proofs.Told.{at_told}
 use Rattle.adr_journal.specs.declared.keeper.Keeper.{Ghosts}
 use Rattle.adr_controller.specs.Running.{Running, IsInOrder}
 use Rattle.adr_session.specs.declared.ending.ServeFault.{ServeFault}
@@ -17,39 +15,26 @@ use Rattle.adr_session.specs.Talk.{Answered, Gives, Said, Reaction, Sends, acts,
 use Rattle.adr_law_controller.specs.Keeping.{Stands}
 use Rattle.adr_session.specs.Told.{FindsOneOf, ReactsSo}
 use Rattle.adr_session.specs.Made.{MadeSo, Makes, Reacts}
-use Rattle.adr_session.proofs.Reacting.{finds_one, stands_near}
+use Rattle.adr_law_controller.proofs.Crashes.{Crashes, Left, LeavesLaw, OnlyNowLaw, stands_there, still_crashes, still_left}
+use Rattle.adr_session.proofs.Reacting.{finds_one, if_ok_any, stands_near}
 
 -- ---- nothing was asked of the controller
 
-module _ {K V : Type 0} (items : V → List ℕ) (k : Ghosts K)
-    (leaves : (keeper : K) (f : Found State) (t : Started State) → k.is_at keeper f → k.is_failed keeper ≡ false → IsSome (k.told keeper) → k.may_leave keeper t → t ≡ Ok f)
-    (only_now : (keeper : K) (t : Started State) → k.left_since keeper (k.moment keeper) t → k.may_leave keeper t)
+module _ {K V : Type 0} (items : V → List ℕ) (k : Ghosts K) (leaves : LeavesLaw k) (only_now : OnlyNowLaw k)
     (c : Running K) (order : IsInOrder k c) (up : IsSome c.state) where
-  -- a start finds the state alone
-  finds_now : (f : Found State) → Stands k f c → IsSome (k.told c.keeper) → (x : Started State) → k.may_leave c.keeper x → FindsState f.state x
-  finds_now f stands told x left = (f.log, leaves c.keeper f x stands.1 (order.up f.state stands.0).0.running told left)
-
   -- it answered so, and stands where it stood
   same : (said : Option Said) (before after : Option (List ℕ)) (r : Result (Option V) ServeFault)
       → ((f : Found State) (moments : List ℕ) → Stands k f c → before ≡ Some moments → ReactsSo items k f moments (reacts f moments said) r c after)
       → ¬ (r ≡ Err faults.Disk) → Reacts items k said c c r before after
   same said before after r answer not_disk = record {
-    up = on_any r;
+    up = if_ok_any (IsSome c.state) r up;
     answer = answer;
-    any_moment = λ f moments stands is.
-        if_told (k.told c.keeper) _ (λ t tells.
-        started k.moment k.left_since c.keeper (FindsOneOf f (reacts f moments said)) (λ x left.
-        finds_one f (reacts f moments said) x (finds_now f stands (is_some_of (k.told c.keeper) t tells) x (only_now c.keeper x left))));
-    left = λ f moments stands is.
-        if_told (k.told c.keeper) _ (λ t tells. λ x left. finds_one f (reacts f moments said) x (finds_now f stands (is_some_of (k.told c.keeper) t tells) x left));
+    any_moment = λ f moments stands is. still_crashes k leaves only_now (FindsOneOf f (reacts f moments said)) f c stands order (finds_one f (reacts f moments said));
+    left = λ f moments stands is. still_left k leaves (FindsOneOf f (reacts f moments said)) f c c.keeper stands order (λ x left. left) (finds_one f (reacts f moments said));
     told = λ told. told;
     disk = λ is. absurd (not_disk is);
     disk_never_falls = omega arith;
   }
-    where
-      on_any : (r : Result (Option V) ServeFault) → IfOk r (λ _. IsSome c.state)
-      on_any (Ok o) = up
-      on_any (Err e) = tt
 
   -- it is no message of a client
   pub says_nothing : (said : Option Said) → said ≡ None → (moments : Option (List ℕ)) (r : Result (Option V) ServeFault) → r ≡ Ok None → Reacts items k said c c r moments moments
@@ -73,21 +58,14 @@ module _ {K V : Type 0} (items : V → List ℕ) (k : Ghosts K)
   -- what is told without a change
   makes_same : (answers : Found State → Answered) (r : Result V ServeFault) → ((f : Found State) → Stands k f c → MadeSo items k f (answers f) r c) → ¬ (r ≡ Err faults.Disk) → Makes items k answers c c r
   makes_same answers r made not_disk = record {
-    up = on_any r;
+    up = if_ok_any (IsSome c.state) r up;
     made = made;
-    any_moment = λ f stands.
-        if_told (k.told c.keeper) _ (λ t tells.
-        started k.moment k.left_since c.keeper (FindsEither f.state (answers f).0.state) (λ x left.
-        inl (finds_now f stands (is_some_of (k.told c.keeper) t tells) x (only_now c.keeper x left))));
-    left = λ f stands. if_told (k.told c.keeper) _ (λ t tells. λ x left. inl (finds_now f stands (is_some_of (k.told c.keeper) t tells) x left));
+    any_moment = λ f stands. still_crashes k leaves only_now (FindsEither f.state (answers f).0.state) f c stands order (λ x finds. inl finds);
+    left = λ f stands. still_left k leaves (FindsEither f.state (answers f).0.state) f c c.keeper stands order (λ x left. left) (λ x finds. inl finds);
     told = λ told. told;
     disk = λ is. absurd (not_disk is);
     disk_never_falls = omega arith;
   }
-    where
-      on_any : (r : Result V ServeFault) → IfOk r (λ _. IsSome c.state)
-      on_any (Ok v) = up
-      on_any (Err e) = tt
 
   pub tells_still : (answers : Found State → Answered) (v : V) (r : Result V ServeFault) → r ≡ Ok v → ((f : Found State) → Stands k f c → answers f ≡ (f, items v)) → Makes items k answers c c r
   tells_still answers v r is so =
@@ -133,10 +111,10 @@ module _ {K V : Type 0} (items : V → List ℕ) (k : Ghosts K) (answers : Found
         subst (λ (x : Reaction). ReactsSo items k f moments x (of_answer r) new after) (sym s.1) (sends_so f moments s.0 s.2 r (makes.made f stands));
     any_moment = λ f moments stands is.
         let s = sent f moments is in
-        subst (λ (x : Reaction). IfSome (k.told old.keeper) (λ _. LeavesOnly k.moment k.left_since old.keeper new.keeper (FindsOneOf f x))) (sym s.1) (makes.any_moment f stands);
+        subst (λ (x : Reaction). Crashes k old.keeper new.keeper (FindsOneOf f x)) (sym s.1) (makes.any_moment f stands);
     left = λ f moments stands is.
         let s = sent f moments is in
-        subst (λ (x : Reaction). IfSome (k.told old.keeper) (λ _. Among (FindsOneOf f x) (k.may_leave new.keeper))) (sym s.1) (makes.left f stands);
+        subst (λ (x : Reaction). Left k old.keeper new.keeper (FindsOneOf f x)) (sym s.1) (makes.left f stands);
     told = makes.told;
     disk = λ is. makes.disk (same_fault r faults.Disk is);
     disk_never_falls = makes.disk_never_falls;
@@ -150,14 +128,9 @@ module _ {K V : Type 0} (items : V → List ℕ) (k : Ghosts K) (answers : Found
 
   -- and no clock failed
   pub no_clock : r ≡ Err faults.Clock → IsSome old.state → IsInOrder k old → ⊥
-  no_clock is up order = by (order_of old.state refl up)
-    where
-      by : (f : Found State) × Stands k f old → ⊥
-      by t = subst (λ (x : Result V ServeFault). MadeSo items k t.0 (answers t.0) x new) is (makes.made t.0 t.1)
-
-      order_of : (o : Option State) → old.state ≡ o → IsSome o → (f : Found State) × Stands k f old
-      order_of None is up = absurd (cc up)
-      order_of (Some s) is up = let at = (order.up s is).0 in (found s at.log, (is, at.at))
+  no_clock is up order =
+      let there = stands_there k old order up in
+      subst (λ (x : Result V ServeFault). MadeSo items k there.0 (answers there.0) x new) is (makes.made there.0 there.1)
 
 -- where it stands, with what is told
 abbrev pub with_bytes : Found State → List ℕ → Answered

@@ -1,6 +1,5 @@
 pub mod Reacting
 pub mod Talking
-pub mod Leaving
 pub mod Hearing
 pub mod Messages
 pub mod OneTurn

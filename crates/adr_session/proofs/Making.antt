@@ -1,23 +1,22 @@
 -- What a call of a controller that is up comes to, by how it ended.
-use Rattle.std.proofs.Common.{◌≡◌, ◌⊎◌, inl, inr, ⊎_elim, ◌∙◌, sym, subst, refl, ℕ, true, false, List, Option, Some, None, IsSome, Result, Ok, Err, ◌<◌, arith}
+use Rattle.std.proofs.Common.{◌≡◌, ◌⊎◌, inl, inr, ⊎_elim, ◌∙◌, sym, ap, subst, refl, ℕ, true, false, List, Option, Some, None, IsSome, Result, Ok, Err}
 use Rattle.std.specs.Prelude.{IfOk, IsErrOf}
 use Rattle.std.proofs.lemmas.Bool.{cond-false, cond-true}
-use Rattle.adr_disk.specs.Disk.{Among, LeavesOnly}
-use Rattle.adr_disk.proofs.Moments.{started}
 use Rattle.adr_model.specs.Store.{State}
 use Rattle.adr_model.specs.Change.{Change, after}
 use Rattle.adr_model.specs.Lengths.{change_fits, next_log}
-use Rattle.adr_law_journal.specs.Areas.{Found, found, Started}
-use Rattle.adr_law_journal.specs.Kept.{FindsEither, FindsState}
-use Rattle.adr_law_journal.proofs.Told.{at_told, if_told, is_some_of, some_of}
+use Rattle.adr_law_journal.specs.Areas.{Found, found}
+use Rattle.adr_law_journal.specs.Kept.{FindsEither}
+use Rattle.adr_law_journal.proofs.Told.{is_some_of}
 use Rattle.adr_journal.specs.declared.keeper.Keeper.{Ghosts}
 use Rattle.adr_controller.specs.declared.refusal.Hindrance.{Hindrance}
 use Rattle.adr_controller.specs.declared.refusal.Hindrance.TheVariants.{Down, Failed, Full, DiskFault, NoMemory}
 use Rattle.adr_controller.specs.Running.{Running, IsInOrder}
-use Rattle.adr_controller.specs.Did.{Calls, Commits, KeepsAll}
+use Rattle.adr_controller.specs.Did.{Calls, Commits}
 use Rattle.adr_session.specs.declared.ending.ServeFault.{ServeFault}
 use Rattle.adr_session.specs.declared.ending.ServeFault.TheVariants as faults
 use Rattle.adr_session.specs.Talk.{Answered, committed}
+use Rattle.adr_law_controller.proofs.Crashes.{Crashes, LeavesLaw, Left, OnlyNowLaw, call_failed, call_finds, stands_there}
 use Rattle.adr_law_controller.specs.Keeping.{Stands}
 use Rattle.adr_session.specs.Made.{led, HasNoState, Tells, MadeSo, Makes}
 
@@ -74,62 +73,6 @@ module _ {K : Type 0} (k : Ghosts K) (changes : State → Option Change) (old ne
   came told full None is = idle is told full how refl
   came told full (Some c) is = kept c is told full how refl
 
--- ---- what a start finds
-
--- the one state or the other, at each moment and behind it
-record Finds {K : Type 0} (k : Ghosts K) (before behind : State) (old new : K) : Type 0 where
-  moments : LeavesOnly k.moment k.left_since old new (FindsEither before behind)
-  left : Among (FindsEither before behind) (k.may_leave new)
-
-module _ {K : Type 0} (k : Ghosts K)
-    (leaves : (keeper : K) (f : Found State) (t : Started State) → k.is_at keeper f → k.is_failed keeper ≡ false → IsSome (k.told keeper) → k.may_leave keeper t → t ≡ Ok f)
-    (only_now : (keeper : K) (t : Started State) → k.left_since keeper (k.moment keeper) t → k.may_leave keeper t)
-    (changes : State → Option Change) (old new : Running K) (how : Option Hindrance) (order : IsInOrder k old) (calls : Calls k changes old new how) (f : Found State) (stands : Stands k f old)
-    (told : IsSome (k.told old.keeper)) where
-  -- before the call it finds the state alone
-  finds_first : (x : Started State) → k.may_leave old.keeper x → FindsState f.state x
-  finds_first x left = (f.log, leaves old.keeper f x stands.1 (order.up f.state stands.0).0.running told left)
-
-  stays : (behind : State) → Finds k f.state behind old.keeper old.keeper
-  stays behind = record {
-    moments = started k.moment k.left_since old.keeper (FindsEither f.state behind) (λ x h. inl (finds_first x (only_now old.keeper x h)));
-    left = λ x h. inl (finds_first x h);
-  }
-
-  stays_so : (behind : State) → new ≡ old → Finds k f.state behind old.keeper new.keeper
-  stays_so behind same = subst (λ c. Finds k f.state behind old.keeper c.keeper) (sym same) (stays behind)
-
-  wanted : (behind : State) → KeepsAll k old.keeper new.keeper → Finds k f.state behind old.keeper new.keeper
-  wanted behind kept = record {
-    moments = record {
-      later = omega (arith, kept.moment_stays);
-      each = λ x h. inl (finds_first x (only_now old.keeper x (kept.past_stays (k.moment old.keeper) x h)));
-      before = λ n x le h. inl (kept.past_stays n x h);
-    };
-    left = λ x h. inl (finds_first x (kept.no_more x h));
-  }
-
-  module _ (c : Change) (makes : changes f.state ≡ Some c) where
-    done : Finds k f.state (after f.state c) old.keeper new.keeper
-    done =
-        let there = some_of (k.told old.keeper) told in
-        let commits = calls.commits f.state c stands.0 makes in
-        record { moments = at_told (k.told old.keeper) _ there.0 there.1 commits.any_moment; left = at_told (k.told old.keeper) _ there.0 there.1 commits.left }
-
-    kept_finds : (said full : List ℕ) → (h : Option Hindrance) → how ≡ h → Finds k f.state (committed f c said full).0.state old.keeper new.keeper
-    kept_finds said full None is =
-        subst (λ (a : Answered). Finds k f.state a.0.state old.keeper new.keeper) (sym (fits k changes old new how order calls f stands c makes (inl is) said full)) done
-    kept_finds said full (Some DiskFault) is =
-        subst (λ (a : Answered). Finds k f.state a.0.state old.keeper new.keeper) (sym (fits k changes old new how order calls f stands c makes (inr is) said full)) done
-    kept_finds said full (Some Full) is = stays_so _ ((calls.commits f.state c stands.0 makes).full is)
-    kept_finds said full (Some NoMemory) is = wanted _ ((calls.commits f.state c stands.0 makes).no_memory is).1
-    kept_finds said full (Some Down) is = absurd (cc (calls.down.0 is, (order.up f.state stands.0).1))
-    kept_finds said full (Some Failed) is = absurd (cc ((calls.failed.0 is).1, stands.0))
-
-  finds : (said full : List ℕ) → (m : Option Change) → changes f.state ≡ m → Finds k f.state (led f m said full).0.state old.keeper new.keeper
-  finds said full None is = stays_so f.state (calls.unchanged f.state stands.0 is)
-  finds said full (Some c) is = kept_finds c is said full how refl
-
 -- ---- what is told of it
 
 module _ {K V : Type 0} (items : V → List ℕ) (k : Ghosts K) (f : Found State) (a : Answered) (said full : List ℕ) (new : Running K) where
@@ -175,15 +118,13 @@ disk_so items said full how (Err faults.Disk) tells is = tells
 disk_so items said full how (Err faults.Clock) tells is = absurd tells
 disk_so items said full how (Err faults.NoMemory) tells is = absurd (cc is)
 
-module _ {K V : Type 0} (items : V → List ℕ) (k : Ghosts K)
-    (leaves : (keeper : K) (f : Found State) (t : Started State) → k.is_at keeper f → k.is_failed keeper ≡ false → IsSome (k.told keeper) → k.may_leave keeper t → t ≡ Ok f)
-    (only_now : (keeper : K) (t : Started State) → k.left_since keeper (k.moment keeper) t → k.may_leave keeper t)
+module _ {K V : Type 0} (items : V → List ℕ) (k : Ghosts K) (leaves : LeavesLaw k) (only_now : OnlyNowLaw k)
     (changes : State → Option Change) (answers : Found State → Answered) (old new : Running K) (how : Option Hindrance) (r : Result V ServeFault)
     (order : IsInOrder k old) (up : IsSome old.state) (calls : Calls k changes old new how)
     (so : (f : Found State) → Stands k f old → (said : List ℕ) × (full : List ℕ) × (answers f ≡ led f (changes f.state) said full) × Tells items said full how r) where
   -- where it stands
   there : (f : Found State) × Stands k f old
-  there = let s = some_of old.state up in let at = (order.up s.0 s.1).0 in (found s.0 at.log, (s.1, at.at))
+  there = stands_there k old order up
 
   made : (f : Found State) → Stands k f old → MadeSo items k f (answers f) r new
   made f stands =
@@ -191,26 +132,26 @@ module _ {K V : Type 0} (items : V → List ℕ) (k : Ghosts K)
       subst (λ (a : Answered). MadeSo items k f a r new) (sym t.2)
       (told_so items k f _ t.0 t.1 new how r (came k changes old new how order calls f stands t.0 t.1 (changes f.state) refl) t.3)
 
-  found_so : (f : Found State) → Stands k f old → IsSome (k.told old.keeper) → Finds k f.state (answers f).0.state old.keeper new.keeper
-  found_so f stands told =
+  -- what a start finds, whenever a crash comes, and from then on
+  found_so : (f : Found State) → Stands k f old → Crashes k old.keeper new.keeper (FindsEither f.state (answers f).0.state) × Left k old.keeper new.keeper (FindsEither f.state (answers f).0.state)
+  found_so f stands =
       let t = so f stands in
-      subst (λ (a : Answered). Finds k f.state a.0.state old.keeper new.keeper) (sym t.2) (finds k leaves only_now changes old new how order calls f stands told t.0 t.1 (changes f.state) refl)
-
-  rises : (m : Option Change) → changes there.0.state ≡ m → how ≡ Some DiskFault → k.faults old.keeper < k.faults new.keeper
-  rises None none is = absurd (⊎_elim (λ e. cc (e, is)) (λ e. cc (e, is)) (calls.idle there.0.state there.1.0 none))
-  rises (Some c) makes is = ((calls.commits there.0.state c there.1.0 makes).fault is).1
+      subst (λ (a : Answered). Crashes k old.keeper new.keeper (FindsEither f.state a.0.state) × Left k old.keeper new.keeper (FindsEither f.state a.0.state)) (sym t.2)
+      (call_finds k changes old new how calls leaves only_now order f stands (FindsEither f.state (led f (changes f.state) t.0 t.1).0.state) (λ x finds. inl finds)
+      (λ c makes fits x finds.
+      subst (λ (a : Answered). FindsEither f.state a.0.state x) (sym (ap (λ (m : Option Change). led f m t.0 t.1) makes ∙ fits_so f c t.0 t.1 fits)) finds))
 
   pub makes : Makes items k answers old new r
   makes = record {
     up = still_up items k there.0 (answers there.0) new r (made there.0 there.1);
     made = made;
-    any_moment = λ f stands. if_told (k.told old.keeper) _ (λ t tells. (found_so f stands (is_some_of (k.told old.keeper) t tells)).moments);
-    left = λ f stands. if_told (k.told old.keeper) _ (λ t tells. (found_so f stands (is_some_of (k.told old.keeper) t tells)).left);
+    any_moment = λ f stands. (found_so f stands).0;
+    left = λ f stands. (found_so f stands).1;
     told = calls.still_told.1;
     disk = λ is.
         let t = so there.0 there.1 in
         let came_to = came k changes old new how order calls there.0 there.1 t.0 t.1 (changes there.0.state) refl in
-        rises (changes there.0.state) refl (no_state k there.0 _ t.0 t.1 new how came_to (disk_so items t.0 t.1 how r t.3 is));
+        call_failed k changes old new how calls there.0.state there.1.0 (no_state k there.0 _ t.0 t.1 new how came_to (disk_so items t.0 t.1 how r t.3 is));
     disk_never_falls = calls.later;
   }
 

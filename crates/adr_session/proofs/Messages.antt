@@ -1,6 +1,8 @@
 -- One message of a connection: what was heard, what it came to, and what was sent.
 use Rattle.std.proofs.Common.{◌≡◌, inl, inr, ℕ, List, ◌++◌, take, Option, Some, None, Result, Ok, Err, refl, sym, ap, subst, ◌∙◌}
-use Rattle.std.specs.Prelude.{IfSome}
+use Rattle.std.specs.Prelude.{IfSome, IsErrOf, OnErr, OnOk}
+use Rattle.adr_io.specs.declared.Fault.{Fault}
+use Rattle.adr_io.specs.declared.Fault.TheVariants as io
 use Rattle.adr_model.specs.Store.{State}
 use Rattle.adr_law_journal.specs.Areas.{Started}
 use Rattle.adr_law_journal.proofs.Told.{at_told}
@@ -14,6 +16,7 @@ use Rattle.adr_session.specs.declared.ending.ServeFault.{ServeFault}
 use Rattle.adr_session.specs.declared.ending.ServeFault.TheVariants as faults
 use Rattle.adr_session.specs.Talk.{Point, Stops, Reaction, Sends, Leaves, turn, takes, does, reaction}
 use Rattle.adr_session.specs.Told.{FindsNear, FindsOneOf, ReactsSo, ReactsTo, SaysLine, StandsNear, TakesTurn}
+use Rattle.adr_session.specs.Turns.{sent}
 
 -- the message that comes next is what a frame comes to
 pub turn_is :
@@ -93,25 +96,18 @@ module _ {K V : Type 0} (items : V → List ℕ) (k : Ghosts K) (t : Traffic) (p
     reacts_some : Reacted (Some v) r
     reacts_some = subst (λ (x : Option V). Reacted x r) some reacts
 
-    pub goes_on_so :
-        (before net : Option Traffic) (bytes : List ℕ) → before ≡ Some heard → bytes ≡ items v → IfSome before (λ u. SendsAll u net (frame bytes))
-        → TakesTurn k t p (Ok None) c net clock
-    goes_on_so before net bytes now same sends =
+    -- its frame was sent, or a front of it, or memory was wanting for it
+    pub sent_so :
+        (before net : Option Traffic) (bytes : List ℕ) → before ≡ Some heard → bytes ≡ items v → (said : Result Unit Fault)
+        → OnOk said (IfSome before (λ u. SendsAll u net (frame bytes))) → OnErr said (IfSome before (λ u. SendsFront u net (frame bytes)))
+        → (IsErrOf said io.NoMemory → net ≡ before) → TakesTurn k t p (sent said) c net clock
+    sent_so before net bytes now same (Ok u) all front none =
         sent_all v r is reacts_some net
-        (subst (λ (b : List ℕ). SendsAll heard net (frame b)) same (at_told before (λ u. SendsAll u net (frame bytes)) heard now sends))
-
-    -- a fault of the line came within its frame
-    pub cut_within :
-        (before net : Option Traffic) (bytes : List ℕ) → before ≡ Some heard → bytes ≡ items v → IfSome before (λ u. SendsFront u net (frame bytes))
-        → TakesTurn k t p (Ok (Some ended.Fault)) c net clock
-    cut_within before net bytes now same sends =
+        (subst (λ (b : List ℕ). SendsAll heard net (frame b)) same (at_told before (λ u. SendsAll u net (frame bytes)) heard now all))
+    sent_so before net bytes now same (Err io.Failed) all front none =
         sent_front v r is reacts_some net
-        (subst (λ (b : List ℕ). SendsFront heard net (frame b)) same (at_told before (λ u. SendsFront u net (frame bytes)) heard now sends))
-
-    -- memory was wanting for its frame
-    pub wanting_within :
-        (before net : Option Traffic) → before ≡ Some heard → net ≡ before → TakesTurn k t p (Err faults.NoMemory) c net clock
-    wanting_within before net now stays = sent_none v r is reacts_some net (stays ∙ now)
+        (subst (λ (b : List ℕ). SendsFront heard net (frame b)) same (at_told before (λ u. SendsFront u net (frame bytes)) heard now front))
+    sent_so before net bytes now same (Err io.NoMemory) all front none = sent_none v r is reacts_some net (none refl ∙ now)
 
   wanting_near :
       (r : Reaction) → turn p ≡ does p rest r → StandsNear k p.stands r c → (net : Option Traffic) → net ≡ Some heard → TakesTurn k t p (Err faults.NoMemory) c net clock

@@ -1,8 +1,11 @@
 -- A turn with what of it is counted: where nothing was done, where a frame was heard, and where it was answered.
-use Rattle.std.proofs.Common.{◌≡◌, ◌⊎◌, ◌<◌, ◌≤◌, ◌∙◌, inl, inr, ⊎_elim, refl, ℕ, List, Option, Some, Result, Ok, Err, arith}
+use Rattle.std.proofs.Common.{◌≡◌, ◌⊎◌, ◌<◌, ◌≤◌, ◌∙◌, inl, inr, ⊎_elim, refl, ℕ, List, Option, Some, None, Result, Ok, Err, arith}
 use Rattle.std.specs.Prelude.{IfOk, IsErrOf, IsSome}
+use Rattle.adr_io.specs.declared.Fault.{Fault}
+use Rattle.adr_io.specs.declared.Fault.TheVariants as io
 use Rattle.adr_journal.specs.declared.keeper.Keeper.{Ghosts}
 use Rattle.adr_controller.specs.Running.{IsInOrder, Running}
+use Rattle.adr_outside.specs.Calls.{CountsLine}
 use Rattle.adr_outside.specs.Traffic.{Traffic}
 use Rattle.adr_outside.specs.declared.net.Net.{Ghosts as NetGhosts}
 use Rattle.adr_outside.specs.declared.clock.Clock.{Ghosts as ClockGhosts}
@@ -13,13 +16,10 @@ use Rattle.adr_session.specs.declared.ending.ServeFault.TheVariants as faults
 use Rattle.adr_session.specs.Talk.{Point, reaction, said_in}
 use Rattle.adr_session.specs.Told.{FindsNear, FindsOneOf, HasHeard, IsAt, TakesTurn}
 use Rattle.adr_session.specs.Made.{Reacts}
-use Rattle.adr_session.specs.Turns.{Turns}
-use Rattle.adr_session.proofs.Leaving.{LeavesLaw, OnlyNowLaw, crash_by, left_by, still_crashes, still_left}
+use Rattle.adr_session.specs.Turns.{Turns, sent}
+use Rattle.adr_law_controller.proofs.Crashes.{LeavesLaw, OnlyNowLaw, crash_by, left_by, still_crashes, still_left}
+use Rattle.adr_session.proofs.Reacting.{if_ok_any}
 use Rattle.adr_session.proofs.Messages.{one_near, turn_is}
-
-whatever : (A : Type 0) (r : Result (Option End) ServeFault) → A → IfOk r (λ _. A)
-whatever A (Ok x) a = a
-whatever A (Err e) a = tt
 
 module _ {K N C : Type 0} (k : Ghosts K) (n : NetGhosts N) (c : ClockGhosts C) where
   -- nothing was done
@@ -29,11 +29,11 @@ module _ {K N C : Type 0} (k : Ghosts K) (n : NetGhosts N) (c : ClockGhosts C) w
       → (result ≡ Ok (Some ended.Fault)) ⊎ (n.lines after ≡ n.lines net) → n.doors after ≡ n.doors net
       → Turns k n c (λ t p. IsAt k t p here (n.traffic net) (c.moments time)) here here net after time time result
   undone leaves only_now here net after time result order up turns no_disk no_clock fault no_fault doors = record {
-    up = whatever (IsSome here.state) result up;
+    up = if_ok_any (IsSome here.state) result up;
     in_order = order;
     turn = turns;
     any_moment = λ t p at. still_crashes k leaves only_now (FindsNear p) p.stands here at.stands order (λ s finds. (p, inl refl, finds));
-    left = λ t p at. still_left k leaves p here at.stands order;
+    left = λ t p at. still_left k leaves (FindsNear p) p.stands here here.keeper at.stands order (λ s left. left) (λ s finds. (p, inl refl, finds));
     told = λ is. is;
     disk = λ is. absurd (no_disk is);
     disk_never_falls = omega arith;
@@ -93,3 +93,19 @@ module _ {K N C : Type 0} (k : Ghosts K) (n : NetGhosts N) (c : ClockGhosts C) w
     no_fault = no_fault;
     doors = doors;
   }
+
+  -- its answer was sent, or wasn't
+  pub sent_turns : {V : Type 0} (items : V → List ℕ) (old new : Running K) (net after : N) (time time_after : C) (bytes : List ℕ) (o : Option V) (said : Result Unit Fault)
+      → (let r : Result (Option V) ServeFault = Ok o in Reacts items k (said_in bytes) old new r (c.moments time) (c.moments time_after)) → IsInOrder k new
+      → ((t : Traffic) (p : Point) → HasHeard k t p bytes old (n.traffic net) (c.moments time) → TakesTurn k t p (sent said) new (n.traffic after) (c.moments time_after))
+      → c.faults time ≤ c.faults time_after → CountsLine n net after said
+      → Turns k n c (λ t p. HasHeard k t p bytes old (n.traffic net) (c.moments time)) old new net after time time_after (sent said)
+  sent_turns items old new net after time time_after bytes o (Ok u) e order turns later counts =
+      reacted_turns items old new net after time time_after bytes (Ok o) (Ok None) e order turns e.up (λ is. absurd (cc is)) (λ is. absurd (cc is)) later
+      (λ is. absurd (cc is)) (inr counts.passed) counts.other
+  sent_turns items old new net after time time_after bytes o (Err io.Failed) e order turns later counts =
+      reacted_turns items old new net after time time_after bytes (Ok o) (Ok (Some ended.Fault)) e order turns e.up (λ is. absurd (cc is)) (λ is. absurd (cc is)) later
+      (λ is. counts.failed refl) (inl refl) counts.other
+  sent_turns items old new net after time time_after bytes o (Err io.NoMemory) e order turns later counts =
+      reacted_turns items old new net after time time_after bytes (Ok o) (Err faults.NoMemory) e order turns tt (λ is. absurd (cc is)) (λ is. absurd (cc is)) later
+      (λ is. absurd (cc is)) (inr (counts.no_memory refl)) counts.other

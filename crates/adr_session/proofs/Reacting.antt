@@ -1,5 +1,6 @@
 -- What a frame comes to where nothing has changed.
-use Rattle.std.proofs.Common.{inl}
+use Rattle.std.proofs.Common.{inl, Result, Ok, Err}
+use Rattle.std.specs.Prelude.{IfOk}
 use Rattle.adr_law_journal.specs.Areas.{Found, Started}
 use Rattle.adr_law_journal.specs.Kept.{FindsState}
 use Rattle.adr_model.specs.Store.{State}
@@ -17,3 +18,8 @@ pub stands_near :
     {K : Type 0} (k : Ghosts K) (f : Found State) (r : Reaction) (c : Running K) → Stands k f c → StandsNear k f r c
 stands_near k f (Sends a rest) c here = inl here
 stands_near k f (Leaves ends) c here = here
+
+-- and where something holds whatever a call comes to
+pub if_ok_any : {T E : Type 0} (A : Type 0) (r : Result T E) → A → IfOk r (λ _. A)
+if_ok_any A (Ok x) a = a
+if_ok_any A (Err e) a = tt

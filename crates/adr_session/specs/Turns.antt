@@ -1,5 +1,7 @@
 -- What one message of a connection comes to, and what of it is counted.
-use Rattle.std.specs.Prelude.{◌≡◌, ◌⊎◌, ◌<◌, ◌≤◌, Option, Some, Result, Ok, IfOk, IfSome, IsErrOf, IsSome}
+use Rattle.std.specs.Prelude.{◌≡◌, ◌⊎◌, ◌<◌, ◌≤◌, Option, Some, None, Result, Ok, Err, IfOk, IfSome, IsErrOf, IsSome}
+use Rattle.adr_io.specs.declared.Fault.{Fault}
+use Rattle.adr_io.specs.declared.Fault.TheVariants as io
 use Rattle.adr_disk.specs.Disk.{Among, LeavesOnly}
 use Rattle.adr_journal.specs.declared.keeper.Keeper.{Ghosts}
 use Rattle.adr_controller.specs.Running.{IsInOrder, Running}
@@ -12,6 +14,12 @@ use Rattle.adr_session.specs.declared.ending.ServeFault.{ServeFault}
 use Rattle.adr_session.specs.declared.ending.ServeFault.TheVariants as faults
 use Rattle.adr_session.specs.Talk.{Point}
 use Rattle.adr_session.specs.Told.{FindsNear, TakesTurn}
+
+-- what a turn comes to whose answer was sent, or wasn't
+abbrev pub sent : Result Unit Fault → Result (Option End) ServeFault
+sent (Ok _) = Ok None
+sent (Err io.Failed) = Ok (Some ended.Fault)
+sent (Err io.NoMemory) = Err faults.NoMemory
 
 -- From wherever node, connection and clock stand, as far as they tell it: what the turn comes to, and what a start finds behind a crash
 -- at any moment of it, and from then on. Each fault comes where its count rose, and no count falls.

@@ -1,9 +1,9 @@
 //! One message of a connection.
 
-ghost use Rattle.std.specs.Prelude.{IsSome};
+ghost use Rattle.std.specs.Prelude.{◌≡◌, IsSome};
 ghost use Rattle.adr_law_controller.specs.Keeping.{KeepsLog};
 ghost use Rattle.adr_session.specs.Told.{HasHeard, IsAt};
-ghost use Rattle.adr_session.specs.Turns.{Turns};
+ghost use Rattle.adr_session.specs.Turns.{Turns, sent};
 
 use crate::answering::react;
 use crate::ending::{End, ServeFault};
@@ -12,6 +12,17 @@ use adr_frames::{Heard, hear, say};
 use adr_io::Fault;
 use adr_outside::{Clock, Net};
 use std::alloc::Global;
+
+/// What a turn comes to whose answer was sent, or wasn't.
+fn sent(said: Result<(), Fault>) -> Result<Option<End>, ServeFault>
+    ensures { result ≡ sent said }
+{
+    match said {
+        Ok(()) => Ok(None),
+        Err(Fault::Failed) => Ok(Some(End::Fault)),
+        Err(Fault::NoMemory) => Err(ServeFault::NoMemory),
+    }
+}
 
 /// Answers a frame that was heard, or tells how it ends the connection.
 fn answer_frame<K: Keeper, N: Net, C: Clock>(
@@ -32,11 +43,8 @@ fn answer_frame<K: Keeper, N: Net, C: Clock>(
     let Some(answer) = reacted? else {
         return Ok(Some(End::Malformed));
     };
-    match say(alloc, net, &answer) {
-        Ok(()) => Ok(None),
-        Err(Fault::Failed) => Ok(Some(End::Fault)),
-        Err(Fault::NoMemory) => Err(ServeFault::NoMemory),
-    }
+    let said = say(alloc, net, &answer);
+    sent(said)
 }
 
 /// Hears a message and answers it, or tells how the connection has ended.

@@ -1,5 +1,5 @@
 use Rattle.adr_dial.specs.Pulls.{Hands}
-use Rattle.adr_dial.proofs.Begun.{Counted, Tells, started_pulls}
+use Rattle.adr_dial.proofs.Begun.{Counted, started_pulls}
 use Rattle.adr_dial.proofs.pulling.pull_into.Goals as goal
 
 pub returns : goal.returns
@@ -10,12 +10,13 @@ returns g c = λ keeper begun.
     let name = c.args.name.now in
     let up = c.pull_up-ended in
     let u = up.ensures in
-    let law : Tells k n s name = record { tells = g.met.K.Keeper.tells; leaves = g.met.K.Keeper.leaves } in
+    let law = g.met.K.Keeper in
     let old : Hands g.row.K.Denot g.row.N.Denot g.row.S.Denot = record { disk = keeper; net = c.args.net.now; sink = c.args.sink.now } in
     let new : Hands g.row.K.Denot g.row.N.Denot g.row.S.Denot = record { disk = c.into_keeper.result; net = up.new.net; sink = up.new.sink } in
     let first = c.args.controller in
     let last = up.new.controller in
-    let counted : Counted k n s name law old new first last up.result begun c.into_keeper.ensures u.in_order = record {
+    let counted : Counted k n s name law.tells law.leaves old new first last up.result begun c.into_keeper.ensures u.in_order = record {
+      told = u.told;
       write = u.write;
       disk = u.disk;
       link = u.link;
@@ -24,4 +25,4 @@ returns g c = λ keeper begun.
       doors_later = u.doors_never_fall;
       lines_later = u.lines_never_fall;
     } in
-    started_pulls k n s name law old new first last up.result begun c.into_keeper.ensures u.in_order u.pulls u.any_moment counted
+    started_pulls k n s name law.tells law.leaves old new first last up.result begun c.into_keeper.ensures u.in_order u.pulls u.any_moment counted

@@ -1,4 +1,4 @@
-use Rattle.std.proofs.Common.{[], ◌≡◌, ◌≤◌, arith, sym, ◌∙◌}
+use Rattle.std.proofs.Common.{[], ◌≡◌, ◌≤◌, arith, ◌∙◌}
 use Rattle.std.specs.Prelude.{IsSome}
 use Rattle.adr_outside.specs.Traffic.{open_line}
 use Rattle.adr_session.specs.Told.{EndsByFault}

@@ -2,7 +2,7 @@ use Rattle.std.proofs.Common.{◌≡◌, ◌∙◌, refl, arith}
 use Rattle.std.proofs.lemmas.Result.{err_from_is_err_and}
 use Rattle.adr_pull.specs.Told.{FindsBehind}
 use Rattle.adr_pull.specs.Fetch.{reply_limit}
-use Rattle.adr_pull.proofs.Taking.{Keeps, still_leaves}
+use Rattle.adr_law_controller.proofs.Crashes.{still_crashes}
 use Rattle.adr_pull.proofs.Going.{begins, begins_behind, course, crash_more, goes_err, goes_further, goes_over, goes_waiting}
 use Rattle.adr_pull.proofs.pulling.fetch.Goals as goal
 
@@ -12,9 +12,8 @@ loop-turn-init g c = record {
   at = λ t p at. begins g.K.Keeper t c.args.name.now c.args.partner p c.args.controller.now
       (g.N.Net.traffic c.args.net.now) (g.S.Sink.written c.args.sink.now) at;
   crash = λ t p at.
-      let law : Keeps g.K.Keeper = record { leaves = g.met.K.Keeper.leaves; only_now = g.met.K.Keeper.only_now } in
-      still_leaves g.K.Keeper law p.stands c.args.controller.now at.node c.state.ensures.in_order
-      c.args.controller.now (FindsBehind (course g.K.Keeper t c.args.name.now c.args.partner p)) refl
+      let law = g.met.K.Keeper in
+      still_crashes g.K.Keeper law.leaves law.only_now (FindsBehind (course g.K.Keeper t c.args.name.now c.args.partner p)) p.stands c.args.controller.now at.node c.state.ensures.in_order
       (begins_behind g.K.Keeper t c.args.name.now c.args.partner p);
   told = (λ is. is, λ is. is);
   disk = omega arith;
@@ -35,13 +34,8 @@ returns-in_err-over-clause-goes g c = λ t p at.
 
 pub returns-in_err-over-clause-any_moment : goal.returns-in_err-over-clause-any_moment
 returns-in_err-over-clause-any_moment g c = λ t p at.
-    let on = c.loop-turn.invariant.at t p at in
-    crash_more g.K.Keeper t c.args.name.now c.args.partner p c.loop-turn.turn on.none c.take_turn.new.controller
-    (g.N.Net.traffic c.take_turn.new.net)
-    (g.S.Sink.written c.take_turn.new.sink) c.args.controller.now.keeper c.loop-turn.controller.keeper
-    c.take_turn.new.controller.keeper
-    (c.loop-turn.invariant.crash t p at) c.loop-turn.invariant.told
-    (c.take_turn.ensures.any_moment t (course g.K.Keeper t c.args.name.now c.args.partner p c.loop-turn.turn).0 on.at)
+    crash_more g.K.Keeper t c.args.name.now c.args.partner p c.loop-turn.turn (c.loop-turn.invariant.at t p at) c.args.controller.now.keeper
+    c.take_turn.new.controller.keeper (c.loop-turn.invariant.crash t p at) c.loop-turn.invariant.told (c.take_turn.ensures.any_moment t)
 
 pub returns-then-over-clause-goes : goal.returns-then-over-clause-goes
 returns-then-over-clause-goes g c = λ t p at.
@@ -53,13 +47,8 @@ returns-then-over-clause-goes g c = λ t p at.
 
 pub returns-then-over-clause-any_moment : goal.returns-then-over-clause-any_moment
 returns-then-over-clause-any_moment g c = λ t p at.
-    let on = c.loop-turn.invariant.at t p at in
-    crash_more g.K.Keeper t c.args.name.now c.args.partner p c.loop-turn.turn on.none c.take_turn.new.controller
-    (g.N.Net.traffic c.take_turn.new.net)
-    (g.S.Sink.written c.take_turn.new.sink) c.args.controller.now.keeper c.loop-turn.controller.keeper
-    c.take_turn.new.controller.keeper
-    (c.loop-turn.invariant.crash t p at) c.loop-turn.invariant.told
-    (c.take_turn.ensures.any_moment t (course g.K.Keeper t c.args.name.now c.args.partner p c.loop-turn.turn).0 on.at)
+    crash_more g.K.Keeper t c.args.name.now c.args.partner p c.loop-turn.turn (c.loop-turn.invariant.at t p at) c.args.controller.now.keeper
+    c.take_turn.new.controller.keeper (c.loop-turn.invariant.crash t p at) c.loop-turn.invariant.told (c.take_turn.ensures.any_moment t)
 
 pub loop-turn-preserved : goal.loop-turn-preserved
 loop-turn-preserved g c = record {
@@ -70,13 +59,8 @@ loop-turn-preserved g c = record {
       (g.N.Net.traffic c.take_turn.new.net) (g.S.Sink.written c.take_turn.new.sink) c.in_ok-over.over c.if-over.false
       (c.in_ok-over.ensures.turn t (course g.K.Keeper t c.args.name.now c.args.partner p c.loop-turn.turn).0 on.at);
   crash = λ t p at.
-      let on = c.loop-turn.invariant.at t p at in
-      crash_more g.K.Keeper t c.args.name.now c.args.partner p c.loop-turn.turn on.none c.take_turn.new.controller
-      (g.N.Net.traffic c.take_turn.new.net)
-      (g.S.Sink.written c.take_turn.new.sink) c.args.controller.now.keeper c.loop-turn.controller.keeper
-      c.take_turn.new.controller.keeper
-      (c.loop-turn.invariant.crash t p at) c.loop-turn.invariant.told
-      (c.take_turn.ensures.any_moment t (course g.K.Keeper t c.args.name.now c.args.partner p c.loop-turn.turn).0 on.at);
+      crash_more g.K.Keeper t c.args.name.now c.args.partner p c.loop-turn.turn (c.loop-turn.invariant.at t p at) c.args.controller.now.keeper
+      c.take_turn.new.controller.keeper (c.loop-turn.invariant.crash t p at) c.loop-turn.invariant.told (c.take_turn.ensures.any_moment t);
   told = (
     λ is. c.loop-turn.invariant.told.0 (c.take_turn.ensures.counts.told.0 is),
     λ is. c.take_turn.ensures.counts.told.1 (c.loop-turn.invariant.told.1 is),

@@ -1,9 +1,9 @@
-use Rattle.std.proofs.Common.{suc, Err, refl}
+use Rattle.std.proofs.Common.{suc, Err}
 use Rattle.std.proofs.lemmas.Result.{err_from_is_err_and}
 use Rattle.adr_disk.proofs.Told.{at_told}
 use Rattle.adr_pull.specs.Fetch.{reply_limit}
 use Rattle.adr_pull.specs.Told.{FindsBehind}
-use Rattle.adr_pull.proofs.Taking.{Keeps, still_leaves}
+use Rattle.adr_law_controller.proofs.Crashes.{still_crashes}
 use Rattle.adr_pull.proofs.Going.{Before, after_greeting, all, goes_later, goes_unmet, greeted_at, kept_from, kept_so, leaves_later, pulled_more}
 use Rattle.adr_pull.proofs.pulling.pull.Goals as goal
 
@@ -18,14 +18,13 @@ returns-in_err-partner-clause-pulls g c = λ t p at.
 
 pub returns-in_err-partner-clause-any_moment : goal.returns-in_err-partner-clause-any_moment
 returns-in_err-partner-clause-any_moment g c = λ t p at.
-    let law : Keeps g.K.Keeper = record { leaves = g.met.K.Keeper.leaves; only_now = g.met.K.Keeper.only_now } in
-    still_leaves g.K.Keeper law p.stands c.args.controller.now at.node c.state.ensures.in_order c.args.controller.now
-    (FindsBehind (all g.K.Keeper t c.args.name.now p)) refl (λ x here. (0, here))
+    let law = g.met.K.Keeper in
+    still_crashes g.K.Keeper law.leaves law.only_now (FindsBehind (all g.K.Keeper t c.args.name.now p)) p.stands c.args.controller.now at.node c.state.ensures.in_order (λ x here. (0, here))
 
 pub returns-in_err-partner-clause-left : goal.returns-in_err-partner-clause-left
 returns-in_err-partner-clause-left g c = λ t p at.
-    let law : Keeps g.K.Keeper = record { leaves = g.met.K.Keeper.leaves; only_now = g.met.K.Keeper.only_now } in
-    kept_so g.K.Keeper law t (all g.K.Keeper t c.args.name.now p) (suc reply_limit) c.args.controller.now
+    let law = g.met.K.Keeper in
+    kept_so g.K.Keeper law.leaves t (all g.K.Keeper t c.args.name.now p) (suc reply_limit) c.args.controller.now
     (g.N.Net.traffic c.meet.new.net) (g.S.Sink.written c.args.sink.now) c.state.ensures.in_order
     (pulled_more c.args.name.now p) (Err c.in_err-partner.field-0.0)
     (goes_unmet g.K.Keeper t c.args.name.now p reply_limit c.in_err-partner.field-0.0 c.args.controller.now
@@ -55,7 +54,7 @@ returns-clause-any_moment g c = λ t p at.
 
 pub returns-clause-left : goal.returns-clause-left
 returns-clause-left g c = λ t p at.
-    let law : Keeps g.K.Keeper = record { leaves = g.met.K.Keeper.leaves; only_now = g.met.K.Keeper.only_now } in
+    let law = g.met.K.Keeper in
     let m = at_told (g.N.Net.traffic c.args.net.now) _
     (Before g.K.Keeper t c.args.name.now p) at.net c.in_ok-partner.ensures.meets in
     let goes = goes_later g.K.Keeper t c.args.name.now p c.in_ok-partner.partner m.0 m.1 reply_limit
@@ -64,9 +63,9 @@ returns-clause-left g c = λ t p at.
     (c.fetch-fetched.ensures.goes t (after_greeting g.K.Keeper t c.args.name.now p c.in_ok-partner.partner m.0 m.1)
     (greeted_at g.K.Keeper t c.args.name.now p c.in_ok-partner.partner m.0 m.1 c.args.controller.now
     (g.N.Net.traffic c.meet.new.net) (g.S.Sink.written c.args.sink.now) at.node m.2 at.lines)) in
-    kept_from g.K.Keeper law t (all g.K.Keeper t c.args.name.now p) reply_limit c.fetch-fetched.new.controller
+    kept_from g.K.Keeper law.leaves t (all g.K.Keeper t c.args.name.now p) reply_limit c.fetch-fetched.new.controller
     (g.N.Net.traffic c.fetch-fetched.new.net) (g.S.Sink.written c.fetch-fetched.new.sink) c.state-2.ensures.in_order
     c.args.controller.now.keeper c.fetch-fetched.ensures.counts.told
-    (kept_so g.K.Keeper law t (all g.K.Keeper t c.args.name.now p) (suc reply_limit) c.fetch-fetched.new.controller
+    (kept_so g.K.Keeper law.leaves t (all g.K.Keeper t c.args.name.now p) (suc reply_limit) c.fetch-fetched.new.controller
     (g.N.Net.traffic c.fetch-fetched.new.net) (g.S.Sink.written c.fetch-fetched.new.sink) c.state-2.ensures.in_order
     (pulled_more c.args.name.now p) c.fetch-fetched.result goes)

@@ -1,4 +1,4 @@
-use Rattle.std.proofs.Common.{Result, refl, sym, ap, subst}
+use Rattle.std.proofs.Common.{Result, sym, ap, subst}
 use Rattle.std.specs.Option.{option_map}
 use Rattle.adr_wire.specs.declared.refusal.DecodeRefusal.{DecodeRefusal}
 use Rattle.adr_failure.specs.declared.Failure.{Failure}
@@ -10,7 +10,6 @@ use Rattle.adr_packet.specs.Replies.{decoded_reply}
 use Rattle.adr_pull.specs.Fetch.{made, replied}
 use Rattle.adr_pull.specs.Told.{FindsDue, ReactsSo}
 use Rattle.adr_pull.proofs.Saying.{still_due}
-use Rattle.adr_pull.proofs.Taking.{Keeps}
 use Rattle.adr_pull.proofs.reacting.heed_reply.Goals as goal
 
 pub take_reply-came-requires-clause-form : goal.take_reply-came-requires-clause-form
@@ -33,13 +32,13 @@ returns-in-Ok-clause-any_moment g c = λ f stands.
 
 pub returns-in-Err-Refused-clause-any_moment : goal.returns-in-Err-Refused-clause-any_moment
 returns-in-Err-Refused-clause-any_moment g c = λ f stands.
-    let law : Keeps g.K.Keeper = record { leaves = g.met.K.Keeper.leaves; only_now = g.met.K.Keeper.only_now } in
-    still_due g.K.Keeper law f c.args.controller.now stands c.state.ensures.in_order (option_map (made f) (replied (decoded_reply c.args.body.now)))
+    let law = g.met.K.Keeper in
+    still_due g.K.Keeper law.leaves law.only_now f c.args.controller.now stands c.state.ensures.in_order (option_map (made f) (replied (decoded_reply c.args.body.now)))
 
 pub returns-in-Err-NoMemory-clause-any_moment : goal.returns-in-Err-NoMemory-clause-any_moment
 returns-in-Err-NoMemory-clause-any_moment g c = λ f stands.
-    let law : Keeps g.K.Keeper = record { leaves = g.met.K.Keeper.leaves; only_now = g.met.K.Keeper.only_now } in
-    still_due g.K.Keeper law f c.args.controller.now stands c.state.ensures.in_order (option_map (made f) (replied (decoded_reply c.args.body.now)))
+    let law = g.met.K.Keeper in
+    still_due g.K.Keeper law.leaves law.only_now f c.args.controller.now stands c.state.ensures.in_order (option_map (made f) (replied (decoded_reply c.args.body.now)))
 
 pub returns-in-Err-Refused-clause-reacts : goal.returns-in-Err-Refused-clause-reacts
 returns-in-Err-Refused-clause-reacts g c = λ f stands. (

@@ -4,23 +4,22 @@ use Rattle.adr_packet.specs.Refusals.{decoded_refusal}
 use Rattle.adr_pull.specs.Fetch.{Said, made, refused, said_in}
 use Rattle.adr_pull.specs.Told.{ReactsSo}
 use Rattle.adr_pull.proofs.Saying.{refusal_reacts, says_refusal, still_due}
-use Rattle.adr_pull.proofs.Taking.{Keeps}
 use Rattle.adr_pull.proofs.reacting.react.Goals as goal
 
 pub returns-in_default-clause-any_moment : goal.returns-in_default-clause-any_moment
 returns-in_default-clause-any_moment g c = λ f stands.
-    let law : Keeps g.K.Keeper = record { leaves = g.met.K.Keeper.leaves; only_now = g.met.K.Keeper.only_now } in
-    still_due g.K.Keeper law f c.args.controller.now stands c.state.ensures.in_order (option_map (made f) (said_in c.args.bytes.now))
+    let law = g.met.K.Keeper in
+    still_due g.K.Keeper law.leaves law.only_now f c.args.controller.now stands c.state.ensures.in_order (option_map (made f) (said_in c.args.bytes.now))
 
 pub returns-in-3-clause-any_moment : goal.returns-in-3-clause-any_moment
 returns-in-3-clause-any_moment g c = λ f stands.
-    let law : Keeps g.K.Keeper = record { leaves = g.met.K.Keeper.leaves; only_now = g.met.K.Keeper.only_now } in
-    still_due g.K.Keeper law f c.args.controller.now stands c.state.ensures.in_order (option_map (made f) (said_in c.args.bytes.now))
+    let law = g.met.K.Keeper in
+    still_due g.K.Keeper law.leaves law.only_now f c.args.controller.now stands c.state.ensures.in_order (option_map (made f) (said_in c.args.bytes.now))
 
 pub returns-in_default-kind-clause-any_moment : goal.returns-in_default-kind-clause-any_moment
 returns-in_default-kind-clause-any_moment g c = λ f stands.
-    let law : Keeps g.K.Keeper = record { leaves = g.met.K.Keeper.leaves; only_now = g.met.K.Keeper.only_now } in
-    still_due g.K.Keeper law f c.args.controller.now stands c.state.ensures.in_order (option_map (made f) (said_in c.args.bytes.now))
+    let law = g.met.K.Keeper in
+    still_due g.K.Keeper law.leaves law.only_now f c.args.controller.now stands c.state.ensures.in_order (option_map (made f) (said_in c.args.bytes.now))
 
 pub returns-in-3-clause-reacts : goal.returns-in-3-clause-reacts
 returns-in-3-clause-reacts g c = λ f stands.

@@ -1,3 +1,4 @@
+use Rattle.std.proofs.lemmas.Result.{IfOk-at_ok}
 use Rattle.std.proofs.Common.{◌≡◌, ◌∙◌, inl, Bool, Bor, Option, None, Some, Err, is_some, refl, ap}
 use Rattle.std.specs.Option.{option_copied}
 use Rattle.adr_controller.specs.declared.messages.Taken.{Taken}
@@ -5,7 +6,7 @@ use Rattle.adr_controller.specs.Ended.{call_hindrance}
 use Rattle.adr_law_controller.specs.Called.{Takes}
 use Rattle.adr_law_controller.proofs.Follows.{usn_within}
 use Rattle.adr_pull.specs.declared.came.Came.TheVariants.{Took, Declined}
-use Rattle.adr_pull.proofs.Taking.{Keeps, declined_so, hindered_disk, hindered_so, hindered_up, if_ok_at, never_down, never_failed, never_link, never_write, take_leaves, took_so, up_after}
+use Rattle.adr_pull.proofs.Taking.{declined_so, hindered_disk, hindered_so, hindered_up, never_down, never_failed, never_link, never_write, take_leaves, took_so, up_after}
 use Rattle.adr_pull.proofs.reacting.take_reply.Goals as goal
 
 is_there : {X : Type 0} (o : Option (Bor X)) → is_some o ≡ is_some (option_copied o)
@@ -64,7 +65,7 @@ returns-in-Err-Hindered-clause-counts g c =
 
 pub returns-in-Ok-clause-reacts : goal.returns-in-Ok-clause-reacts
 returns-in-Ok-clause-reacts g c = λ f stands.
-    let t = if_ok_at _ _ _ c.in-Ok.is c.take-made.ensures.taken f.state stands.0 in
+    let t = IfOk-at_ok _ c.in-Ok.is c.take-made.ensures.taken f.state stands.0 in
     took_so g.K.Keeper f c.args.reply.now c.args.controller.now c.take-made.new.self
     (call_hindrance c.take-made.result) c.take-made.ensures.calls stands (ap call_hindrance c.in-Ok.is) t.0
     (Took c.in-Ok.taken c.is_some.result) t.1
@@ -88,18 +89,18 @@ returns-in-Err-Hindered-clause-reacts g c = λ f stands.
 
 pub returns-in-Ok-clause-any_moment : goal.returns-in-Ok-clause-any_moment
 returns-in-Ok-clause-any_moment g c = λ f stands.
-    let law : Keeps g.K.Keeper = record { leaves = g.met.K.Keeper.leaves; only_now = g.met.K.Keeper.only_now } in
+    let law = g.met.K.Keeper in
     take_leaves g.K.Keeper f c.args.reply.now c.args.controller.now c.take-made.new.self
-    (call_hindrance c.take-made.result) c.take-made.ensures.calls stands law c.state.ensures.in_order
+    (call_hindrance c.take-made.result) c.take-made.ensures.calls stands law.leaves law.only_now c.state.ensures.in_order
 
 pub returns-in-Err-Refused-clause-any_moment : goal.returns-in-Err-Refused-clause-any_moment
 returns-in-Err-Refused-clause-any_moment g c = λ f stands.
-    let law : Keeps g.K.Keeper = record { leaves = g.met.K.Keeper.leaves; only_now = g.met.K.Keeper.only_now } in
+    let law = g.met.K.Keeper in
     take_leaves g.K.Keeper f c.args.reply.now c.args.controller.now c.take-made.new.self
-    (call_hindrance c.take-made.result) c.take-made.ensures.calls stands law c.state.ensures.in_order
+    (call_hindrance c.take-made.result) c.take-made.ensures.calls stands law.leaves law.only_now c.state.ensures.in_order
 
 pub returns-in-Err-Hindered-clause-any_moment : goal.returns-in-Err-Hindered-clause-any_moment
 returns-in-Err-Hindered-clause-any_moment g c = λ f stands.
-    let law : Keeps g.K.Keeper = record { leaves = g.met.K.Keeper.leaves; only_now = g.met.K.Keeper.only_now } in
+    let law = g.met.K.Keeper in
     take_leaves g.K.Keeper f c.args.reply.now c.args.controller.now c.take-made.new.self
-    (call_hindrance c.take-made.result) c.take-made.ensures.calls stands law c.state.ensures.in_order
+    (call_hindrance c.take-made.result) c.take-made.ensures.calls stands law.leaves law.only_now c.state.ensures.in_order

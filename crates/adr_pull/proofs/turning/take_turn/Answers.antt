@@ -1,10 +1,10 @@
-use Rattle.std.proofs.Common.{ℕ, List, Ok, Err, refl, inl, subst}
+use Rattle.std.proofs.Common.{ℕ, List, Ok, Err, inl, subst}
 use Rattle.std.specs.Option.{option_map}
 use Rattle.std.proofs.lemmas.Result.{err_from_is_err_and}
 use Rattle.adr_disk.proofs.Told.{at_told}
 use Rattle.adr_pull.specs.Fetch.{made, said_in, turn}
 use Rattle.adr_pull.specs.Told.{FindsNear, ReactsSo}
-use Rattle.adr_pull.proofs.Taking.{Keeps, still_leaves}
+use Rattle.adr_law_controller.proofs.Crashes.{still_crashes}
 use Rattle.adr_pull.proofs.Turned.{Here, asked_err, leaves_near, reacts_err, told_err, told_so}
 use Rattle.adr_pull.proofs.turning.take_turn.Goals as goal
 
@@ -19,9 +19,8 @@ returns-in_err-bytes-clause-turn g c = λ t p at.
 
 pub returns-in_err-bytes-clause-any_moment : goal.returns-in_err-bytes-clause-any_moment
 returns-in_err-bytes-clause-any_moment g c = λ t p at.
-    let law : Keeps g.K.Keeper = record { leaves = g.met.K.Keeper.leaves; only_now = g.met.K.Keeper.only_now } in
-    still_leaves g.K.Keeper law p.stands c.args.controller.now at.node c.state.ensures.in_order c.args.controller.now
-    (FindsNear p (turn c.args.name.now c.args.partner p).0) refl (λ x here. inl here)
+    let law = g.met.K.Keeper in
+    still_crashes g.K.Keeper law.leaves law.only_now (FindsNear p (turn c.args.name.now c.args.partner p).0) p.stands c.args.controller.now at.node c.state.ensures.in_order (λ x here. inl here)
 
 pub returns-in_err-came-clause-turn : goal.returns-in_err-came-clause-turn
 returns-in_err-came-clause-turn g c = λ t p at.

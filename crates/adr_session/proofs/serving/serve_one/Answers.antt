@@ -3,8 +3,8 @@ use Rattle.std.proofs.lemmas.Result.{err_from_is_err_and}
 use Rattle.adr_law_journal.proofs.Told.{at_told, if_told, is_some_of, some_of}
 use Rattle.adr_session.specs.Talk.{message_limit}
 use Rattle.adr_session.specs.Told.{FindsBehind}
-use Rattle.adr_session.proofs.Connections.{ended_so, goes_so, left_all, left_end, left_err, left_on, not_cut, serves_all, serves_end, serves_err}
-use Rattle.adr_session.proofs.Leaving.{crash_more, still_crashes}
+use Rattle.adr_session.proofs.Connections.{crash_more, ended_so, goes_so, left_all, left_end, left_err, left_on, not_cut, serves_all, serves_end, serves_err}
+use Rattle.adr_law_controller.proofs.Crashes.{still_crashes}
 use Rattle.adr_session.proofs.serving.serve_one.Goals as goal
 
 pub loop-messages-init : goal.loop-messages-init
@@ -32,9 +32,8 @@ returns-in_err-end-clause-serves g c = λ t p at.
 
 pub returns-in_err-end-clause-any_moment : goal.returns-in_err-end-clause-any_moment
 returns-in_err-end-clause-any_moment g c = λ t p at.
-    let b = c.loop-messages.invariant.at t p at in
-    crash_more g.K.Keeper c.loop-messages.messages p b.0 c.args.controller.now.keeper c.loop-messages.controller.keeper c.take_turn.new.controller.keeper b.1
-    (c.loop-messages.invariant.crash t p at) c.loop-messages.invariant.told (c.take_turn.ensures.any_moment t b.0 b.2)
+    crash_more g.K.Keeper c.loop-messages.messages p _ c.args.controller.now.keeper c.loop-messages.controller.keeper c.take_turn.new.controller.keeper (c.loop-messages.invariant.at t p at)
+    (c.loop-messages.invariant.crash t p at) c.loop-messages.invariant.told (c.take_turn.ensures.any_moment t)
 
 pub returns-in_err-end-clause-left : goal.returns-in_err-end-clause-left
 returns-in_err-end-clause-left g c = λ t p at.
@@ -59,9 +58,8 @@ returns-in-Some-clause-serves g c = λ t p at.
 
 pub returns-in-Some-clause-any_moment : goal.returns-in-Some-clause-any_moment
 returns-in-Some-clause-any_moment g c = λ t p at.
-    let b = c.loop-messages.invariant.at t p at in
-    crash_more g.K.Keeper c.loop-messages.messages p b.0 c.args.controller.now.keeper c.loop-messages.controller.keeper c.take_turn.new.controller.keeper b.1
-    (c.loop-messages.invariant.crash t p at) c.loop-messages.invariant.told (c.take_turn.ensures.any_moment t b.0 b.2)
+    crash_more g.K.Keeper c.loop-messages.messages p _ c.args.controller.now.keeper c.loop-messages.controller.keeper c.take_turn.new.controller.keeper (c.loop-messages.invariant.at t p at)
+    (c.loop-messages.invariant.crash t p at) c.loop-messages.invariant.told (c.take_turn.ensures.any_moment t)
 
 pub returns-in-Some-clause-left : goal.returns-in-Some-clause-left
 returns-in-Some-clause-left g c = λ t p at.
@@ -86,9 +84,8 @@ loop-messages-preserved g c =
           goes_so g.K.Keeper t p c.loop-messages.messages c.take_turn.new.controller (g.N.Net.traffic c.take_turn.new.net) (g.C.Clock.moments c.take_turn.new.clock) c.in_ok-end.field-0 none b.0 b.1
           (c.in_ok-end.ensures.turn t b.0 b.2);
       crash = λ t p at.
-          let b = c.loop-messages.invariant.at t p at in
-          crash_more g.K.Keeper c.loop-messages.messages p b.0 c.args.controller.now.keeper c.loop-messages.controller.keeper c.take_turn.new.controller.keeper b.1
-          (c.loop-messages.invariant.crash t p at) c.loop-messages.invariant.told (c.take_turn.ensures.any_moment t b.0 b.2);
+          crash_more g.K.Keeper c.loop-messages.messages p _ c.args.controller.now.keeper c.loop-messages.controller.keeper c.take_turn.new.controller.keeper (c.loop-messages.invariant.at t p at)
+          (c.loop-messages.invariant.crash t p at) c.loop-messages.invariant.told (c.take_turn.ensures.any_moment t);
       told = λ is. c.take_turn.ensures.told (c.loop-messages.invariant.told is);
       disk = omega (arith, c.loop-messages.invariant.disk, c.take_turn.ensures.disk_never_falls);
       clock = omega (arith, c.loop-messages.invariant.clock, c.take_turn.ensures.clock_never_falls);

@@ -1,11 +1,11 @@
-use Rattle.std.proofs.Common.{rules, ◌≡◌, ℕ, List, None, Some, Ok, Err, inl, inr, refl, ap, ◌∙◌}
+use Rattle.std.proofs.Common.{rules, ◌≡◌, ℕ, List, None, Some, Ok, Err, inr, refl, ap}
 use Rattle.std.specs.Global.{Vec}
 use Rattle.std.proofs.lemmas.Result.{err_from_is_err_and}
 use Rattle.adr_session.specs.declared.ending.End.TheVariants as ended
 use Rattle.adr_session.specs.declared.ending.ServeFault.TheVariants as faults
 use Rattle.adr_session.specs.Talk.{reaction}
-use Rattle.adr_session.proofs.Messages.{cut_within, ends_malformed, fails_so, goes_on_so, turn_is, wanting_within}
-use Rattle.adr_session.proofs.OneTurn.{reacted_turns}
+use Rattle.adr_session.proofs.Messages.{ends_malformed, fails_so, sent_so, turn_is}
+use Rattle.adr_session.proofs.OneTurn.{reacted_turns, sent_turns}
 use Rattle.adr_session.proofs.turning.answer_frame.Goals as goal
 
 -- the bytes of an answer
@@ -41,46 +41,19 @@ returns-in_default g c =
     (turn_is p bytes h.rest h.next) (e.answer.answer p.stands p.moments h.stands h.clock) (g.N.Net.traffic net) h.net)
     e.answer.up (λ is. absurd (cc is)) (λ is. absurd (cc is)) e.clock_never_falls (λ is. absurd (cc is)) (inr refl) refl
 
-pub returns-in-Ok : goal.returns-in-Ok
-returns-in-Ok g c =
-    let k = g.K.Keeper in
-    let now = c.react-reacted.new.controller in
-    let time = c.react-reacted.new.clock in
-    let net = c.args.net.now in
-    let e = c.in_ok-answer.ensures in
-    let bytes = c.args.bytes.now in
-    reacted_turns k g.N.Net g.C.Clock bytes_of c.args.controller.now now net c.say.new.net c.args.clock.now time bytes (Ok c.in_ok-answer.field-0) (Ok None) e.answer c.state.ensures.in_order
-    (λ t p h. goes_on_so bytes_of k t p h.rest now (g.C.Clock.moments time) c.in_ok-answer.field-0 c.in-Some.answer (reaction p.stands p.moments bytes) c.in-Some.is
-    (turn_is p bytes h.rest h.next) (e.answer.answer p.stands p.moments h.stands h.clock) (g.N.Net.traffic net) (g.N.Net.traffic c.say.new.net) c.deref.result.now h.net c.deref.ensures.value
-    c.in-Ok.ensures.sent)
-    e.answer.up (λ is. absurd (cc is)) (λ is. absurd (cc is)) e.clock_never_falls (λ is. absurd (cc is)) (inr c.in-Ok.ensures.counts.passed) c.say.ensures.counts.other
-
-pub returns-in-Err-Failed : goal.returns-in-Err-Failed
-returns-in-Err-Failed g c =
-    let k = g.K.Keeper in
-    let now = c.react-reacted.new.controller in
-    let time = c.react-reacted.new.clock in
-    let net = c.args.net.now in
-    let e = c.in_ok-answer.ensures in
-    let bytes = c.args.bytes.now in
-    reacted_turns k g.N.Net g.C.Clock bytes_of c.args.controller.now now net c.say.new.net c.args.clock.now time bytes (Ok c.in_ok-answer.field-0) (Ok (Some ended.Fault)) e.answer c.state.ensures.in_order
-    (λ t p h. cut_within bytes_of k t p h.rest now (g.C.Clock.moments time) c.in_ok-answer.field-0 c.in-Some.answer (reaction p.stands p.moments bytes) c.in-Some.is
-    (turn_is p bytes h.rest h.next) (e.answer.answer p.stands p.moments h.stands h.clock) (g.N.Net.traffic net) (g.N.Net.traffic c.say.new.net) c.deref.result.now h.net c.deref.ensures.value
-    c.in-Err-Failed.ensures.front)
-    e.answer.up (λ is. absurd (cc is)) (λ is. absurd (cc is)) e.clock_never_falls (λ is. c.in-Err-Failed.ensures.counts.failed (ap Err c.in-Err-Failed.field-0-is)) (inl refl)
-    c.say.ensures.counts.other
-
 pub returns : goal.returns
 returns g c =
     let k = g.K.Keeper in
     let now = c.react-reacted.new.controller in
     let time = c.react-reacted.new.clock in
     let net = c.args.net.now in
+    let after = c.say-said.new.net in
     let e = c.in_ok-answer.ensures in
     let bytes = c.args.bytes.now in
-    let wanting = c.in-Err-NoMemory.is ∙ ap Err c.in-Err-NoMemory.field-0-is in
-    reacted_turns k g.N.Net g.C.Clock bytes_of c.args.controller.now now net c.say.new.net c.args.clock.now time bytes (Ok c.in_ok-answer.field-0) (Err faults.NoMemory) e.answer c.state.ensures.in_order
-    (λ t p h. wanting_within bytes_of k t p h.rest now (g.C.Clock.moments time) c.in_ok-answer.field-0 c.in-Some.answer (reaction p.stands p.moments bytes) c.in-Some.is
-    (turn_is p bytes h.rest h.next) (e.answer.answer p.stands p.moments h.stands h.clock) (g.N.Net.traffic net) (g.N.Net.traffic c.say.new.net) h.net
-    (c.say.ensures.no_memory wanting))
-    tt (λ is. absurd (cc is)) (λ is. absurd (cc is)) e.clock_never_falls (λ is. absurd (cc is)) (inr (c.say.ensures.counts.no_memory wanting)) c.say.ensures.counts.other
+    let said = c.say-said.ensures in
+    rw c.sent.ensures
+    (sent_turns k g.N.Net g.C.Clock bytes_of c.args.controller.now now net after c.args.clock.now time bytes c.in_ok-answer.field-0 c.say-said.result e.answer c.state.ensures.in_order
+    (λ t p h. sent_so bytes_of k t p h.rest now (g.C.Clock.moments time) c.in_ok-answer.field-0 c.in-Some.answer (reaction p.stands p.moments bytes) c.in-Some.is
+    (turn_is p bytes h.rest h.next) (e.answer.answer p.stands p.moments h.stands h.clock) (g.N.Net.traffic net) (g.N.Net.traffic after) c.deref.result.now h.net c.deref.ensures.value
+    c.say-said.result said.sent said.front said.no_memory)
+    e.clock_never_falls said.counts)

@@ -1,4 +1,4 @@
-use Rattle.std.proofs.Common.{inl, inr, refl, ap, sym, ◌∙◌, Some, Ok, Err}
+use Rattle.std.proofs.Common.{inl, inr, refl, ap, Some, Ok, Err}
 use Rattle.adr_session.specs.declared.ending.End.TheVariants as ended
 use Rattle.adr_session.specs.declared.ending.ServeFault.TheVariants as faults
 use Rattle.adr_session.proofs.Hearing.{cut_before, heard_broken, heard_frame, heard_over, wanting_before}
