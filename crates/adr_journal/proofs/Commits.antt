@@ -8,10 +8,9 @@ use Rattle.adr_io.specs.declared.Fault.TheVariants.{Failed, NoMemory}
 use Rattle.adr_disk.specs.Disk.{Call}
 use Rattle.adr_model.specs.Store.{State}
 use Rattle.adr_model.specs.Lengths.{Log}
-use Rattle.adr_law_journal.specs.Areas.{slot_place}
+use Rattle.adr_law_journal.specs.Areas.{Started, slot_place}
 use Rattle.adr_law_journal.specs.Commits.{Commits, Checkpoints}
-use Rattle.adr_law_journal.specs.Kept.{Layout, starts, FindsEither, IsSettled, IsOneOf, Stages}
-use Rattle.adr_law_journal.specs.Recording.{log_behind}
+use Rattle.adr_law_journal.specs.Kept.{Layout, FindsEither, IsSettled, Stages}
 use Rattle.adr_law_journal.proofs.Reading.{area_long}
 use Rattle.adr_law_journal.proofs.Settled.{rests_long}
 use Rattle.adr_journal.specs.Kept.{Ids, IsRoom}
@@ -62,20 +61,16 @@ module _ {D : Type 0} (l : Layout Ids State) (content : D → Option (List ℕ))
   pub takes_then : (later : ℕ) → later ≡ end → (new : D) → IsSettled l content may_leave new s mid → Takes l content may_leave new later written s t mid body
   takes_then later is new settled = record { settled = settled; ends = both.ends ∙ sym is; follows = both.follows; is = both.is; fits = both.fits }
 
-  abbrev pub OneOfThree : List ℕ → Type 0
-  OneOfThree bytes = IsOneOfThree s log mid t (log_behind mid body) (starts l bytes)
+-- ---- what is found
 
-  pub of_checkpoint : (bytes : List ℕ) → IsOneOf s log mid (starts l bytes) → OneOfThree bytes
-  of_checkpoint bytes is = inl is
+pub of_record : (s t : State) (log mid next : Log) (f : Started State) → IsEitherLog s mid t next f → IsOneOfThree s log mid t next f
+of_record s t log mid next f (inl is) = inl (inr is)
+of_record s t log mid next f (inr is) = inr is
 
-  pub either_of : (bytes : List ℕ) → OneOfThree bytes → FindsEither s t (starts l bytes)
-  either_of bytes (inl (inl is)) = inl (log, is)
-  either_of bytes (inl (inr is)) = inl (mid, is)
-  either_of bytes (inr is) = inr (log_behind mid body, is)
-
-  pub of_record : (bytes : List ℕ) → IsEitherLog s mid t (log_behind mid body) (starts l bytes) → OneOfThree bytes
-  of_record bytes (inl is) = inl (inr is)
-  of_record bytes (inr is) = inr is
+pub either_of : (s t : State) (log mid next : Log) (f : Started State) → IsOneOfThree s log mid t next f → FindsEither s t f
+either_of s t log mid next f (inl (inl is)) = inl (log, is)
+either_of s t log mid next f (inl (inr is)) = inl (mid, is)
+either_of s t log mid next f (inr is) = inr (next, is)
 
 -- ---- the calls
 

@@ -5,7 +5,9 @@ use Rattle.adr_io.specs.declared.Fault.{Fault}
 use Rattle.adr_io.specs.declared.Fault.TheVariants.{Failed, NoMemory}
 use Rattle.std.proofs.lemmas.List.{append-nil, drop_all}
 use Rattle.std.proofs.lemmas.Option.{IfSome_then}
-use Rattle.adr_disk.specs.Disk.{put, Torn, Among, Only}
+use Rattle.adr_disk.specs.Disk.{put, Torn, Among, LeavesOnly, Only}
+use Rattle.adr_disk.specs.declared.disk.Disk.{Ghosts as DiskGhosts}
+use Rattle.adr_disk.proofs.Moments.{joined, weakened}
 use Rattle.adr_model.specs.Store.{State}
 use Rattle.adr_model.specs.Lengths.{Log}
 use Rattle.adr_law_journal.specs.Log.{open_gate}
@@ -19,16 +21,47 @@ use Rattle.adr_law_journal.proofs.Told.{if_told, at_told, some_of, is_some_of, s
 use Rattle.adr_journal.specs.Kept.{Ids}
 use Rattle.adr_journal.specs.Written.{AreNoLonger, IsEitherLog, IsNone, Takes}
 
+-- what is there behind a call is what it makes of the bytes before, and a crash leaves nothing else
+pub made_of : {D : Type 0} (d : DiskGhosts D) (old new : D) (made : List ℕ → List ℕ)
+    → IfSome (d.content old) (λ there. d.content new ≡ Some (made there)) → IfSome (d.content old) (λ there. Only (made there) (d.may_leave new))
+    → (IsSome (d.content new) ↔ IsSome (d.content old)) → (y : List ℕ) → d.content new ≡ Some y → (there : List ℕ) × (d.content old ≡ Some there) × (made there ≡ y) × Only y (d.may_leave new)
+made_of d old new made now only both y told =
+    let before = some_of (d.content old) (both.0 (is_some_of (d.content new) y told)) in
+    let same : made before.0 ≡ y = some_is (made before.0) y (sym (at_told (d.content old) _ before.0 before.1 now) ∙ told) in
+    (before.0, before.1, same, subst (λ (l : List ℕ). Only l (d.may_leave new)) same (at_told (d.content old) _ before.0 before.1 only))
+
 -- what is there after a write and a sync, where it was this before
-pub stepped : {D : Type 0} (content : D → Option (List ℕ)) (may_leave : D → List ℕ → Type 0) (old new : D) (was : List ℕ) (at : ℕ) (bytes : List ℕ)
-    → ((x : List ℕ) → content old ≡ Some x → x ≡ was) → IfSome (content old) (λ there. content new ≡ Some (put there at bytes)) → IfSome (content old) (λ there. Only (put there at bytes) (may_leave new))
-    → (IsSome (content new) ↔ IsSome (content old)) → (y : List ℕ) → content new ≡ Some y → (y ≡ put was at bytes) × Only y (may_leave new)
-stepped content may_leave old new was at bytes stood now only both y told =
-    let before = some_of (content old) (both.0 (is_some_of (content new) y told)) in
-    let same : put before.0 at bytes ≡ y = some_is (put before.0 at bytes) y (sym (at_told (content old) _ before.0 before.1 now) ∙ told) in (
-      sym same ∙ ap (λ (l : List ℕ). put l at bytes) (stood before.0 before.1),
-      subst (λ (l : List ℕ). Only l (may_leave new)) same (at_told (content old) _ before.0 before.1 only),
-    )
+pub stepped : {D : Type 0} (d : DiskGhosts D) (old new : D) (was : List ℕ) (at : ℕ) (bytes : List ℕ)
+    → ((x : List ℕ) → d.content old ≡ Some x → x ≡ was) → IfSome (d.content old) (λ there. d.content new ≡ Some (put there at bytes)) → IfSome (d.content old) (λ there. Only (put there at bytes) (d.may_leave new))
+    → (IsSome (d.content new) ↔ IsSome (d.content old)) → (y : List ℕ) → d.content new ≡ Some y → (y ≡ put was at bytes) × Only y (d.may_leave new)
+stepped d old new was at bytes stood now only both y told =
+    let made = made_of d old new (λ there. put there at bytes) now only both y told in
+    (sym made.2 ∙ ap (λ (l : List ℕ). put l at bytes) (stood made.0 made.1), made.3)
+
+-- what holds where the bytes are told in between holds where they are told before
+pub if_before : {A : Type 0} (old mid : Option A) (P : Type 0) → (IsSome mid ↔ IsSome old) → IfSome mid (λ _. P) → IfSome old (λ _. P)
+if_before old mid P both h = if_told old _ (λ there told. let x = some_of mid (both.1 (is_some_of old there told)) in at_told mid _ x.0 x.1 h)
+
+-- ---- what a crash leaves at each moment
+
+module _ {D : Type 0} (d : DiskGhosts D) (P : List ℕ → Type 0) where
+  abbrev pub Leaves : D → D → Type 0
+  Leaves old new = IfSome (d.content old) (λ _. LeavesOnly d.moment d.left_since old new P)
+
+  -- a crash leaves what is torn of what was there
+  pub torn_left : (old new : D) (Q : List ℕ → List ℕ → Type 0) → ((there : List ℕ) → d.content old ≡ Some there → Among P (Q there)) → IfSome (d.content old) (λ there. Among (Q there) (d.may_leave new)) → IfSome (d.content old) (λ _. Among P (d.may_leave new))
+  torn_left old new Q each h = if_told (d.content old) _ (λ there told bytes left. each there told bytes (at_told (d.content old) _ there told h bytes left))
+
+  -- one run of calls behind another
+  pub moments_joined : (old mid new : D) → (IsSome (d.content mid) ↔ IsSome (d.content old)) → Leaves old mid → Leaves mid new → Leaves old new
+  moments_joined old mid new both first then =
+      if_told (d.content old) _ (λ there told.
+      joined d.moment d.left_since old mid new P (at_told (d.content old) _ there told first) (at_told (d.content old) _ there told (if_before (d.content old) (d.content mid) _ both then)))
+
+  -- a run of calls of which less is known
+  pub moments_of : (old new : D) (Q : List ℕ → List ℕ → Type 0) → ((there : List ℕ) → d.content old ≡ Some there → Among P (Q there)) → IfSome (d.content old) (λ there. LeavesOnly d.moment d.left_since old new (Q there)) → Leaves old new
+  moments_of old new Q each h =
+      if_told (d.content old) _ (λ there told. weakened d.moment d.left_since old new (Q there) P (each there told) (at_told (d.content old) _ there told h))
 
 -- ---- how long it becomes
 
@@ -36,15 +69,15 @@ pub torn_no_longer : (content : Option (List ℕ)) (left : List ℕ → Type 0) 
 torn_no_longer content left at n end within h = IfSome_then content h (λ there torn bytes is. let t = torn bytes is in omega (arith, t.no_longer, within))
 
 -- one run of calls behind another
-pub no_longer_behind : {D : Type 0} (content : D → Option (List ℕ)) (may_leave : D → List ℕ → Type 0) (old mid new : D) (first end : ℕ)
-    → (IsSome (content mid) ↔ IsSome (content old)) → IfSome (content mid) (may_leave mid) → first ≤ end → AreNoLonger (content old) (may_leave mid) first → AreNoLonger (content mid) (may_leave new) end
-    → AreNoLonger (content old) (may_leave new) end
-no_longer_behind content may_leave old mid new first end both honest within h then =
-    if_told (content old) _ (λ there told bytes left.
-    let x = some_of (content mid) (both.1 (is_some_of (content old) there told)) in
-    let long = at_told (content old) _ there told h x.0 (at_told (content mid) _ x.0 x.1 honest) in
-    let longer = at_told (content mid) _ x.0 x.1 then bytes left in
-    omega (arith, within, long, longer))
+pub no_longer_behind : {D : Type 0} (d : DiskGhosts D) (old mid new : D) (end : ℕ)
+    → (IsSome (d.content mid) ↔ IsSome (d.content old)) → IfSome (d.content mid) (d.may_leave mid) → AreNoLonger (d.content old) (d.may_leave mid) end → AreNoLonger (d.content mid) (d.may_leave new) end
+    → AreNoLonger (d.content old) (d.may_leave new) end
+no_longer_behind d old mid new end both honest h then =
+    if_told (d.content old) _ (λ there told bytes left.
+    let x = some_of (d.content mid) (both.1 (is_some_of (d.content old) there told)) in
+    let long = at_told (d.content old) _ there told h x.0 (at_told (d.content mid) _ x.0 x.1 honest) in
+    let longer = at_told (d.content mid) _ x.0 x.1 then bytes left in
+    omega (arith, long, longer))
 
 -- ---- a record
 
@@ -77,9 +110,6 @@ module _ {D : Type 0} (l : Layout Ids State) (content : D → Option (List ℕ))
     record_after = settled_after l content may_leave old mid new s log body written takes.is takes.settled now_there only_there both at (is_at ∙ sym takes.ends) t takes.follows takes.fits
 
 -- ---- a format
-
-pub first_is : put [] 0 (0 ∷ []) ≡ 0 ∷ []
-first_is = refl
 
 pub second_is : (written : List ℕ) → put (0 ∷ []) 1 written ≡ 0 ∷ written
 second_is written =

@@ -1,54 +1,49 @@
 use Rattle.std.proofs.Common.{◌≡◌, ℕ, List, true, false, Err, sym, subst, ap}
 use Rattle.adr_model.specs.Lengths.{Log, change_fits}
-use Rattle.adr_law_journal.proofs.Lifts.{kept_same}
-use Rattle.adr_law_journal.proofs.Told.{same_keeps}
 use Rattle.adr_journal.specs.Kept.{IsRoom}
 use Rattle.adr_journal.specs.declared.keeper.KeeperRefusal.TheVariants.{Full}
-use Rattle.adr_journal.proofs.Found.{kept_within, refused_so, still_at}
+use Rattle.adr_journal.proofs.Found.{found_keeps, kept_within, refused_so, same_disk, still_at}
 use Rattle.adr_journal.proofs.journal.JournalKeeper.prepare.Goals as goal
+
+-- ---- where nothing is called
 
 pub returns-then-self-clause-at : goal.returns-then-self-clause-at
 returns-then-self-clause-at g c = λ f at. at
 
 pub returns-then-self-clause-keeps : goal.returns-then-self-clause-keeps
-returns-then-self-clause-keeps g c =
-    let d = g.D.Disk in
-    let j = c.args.self.now in
-    kept_same g.F.Form.head g.F.Form.area g.F.Form.following (λ j. j.disk) d.content d.may_leave d.moment d.left_since j j (same_keeps d.content d.may_leave d.moment d.left_since j.disk)
+returns-then-self-clause-keeps g c = found_keeps g.D.Disk g.F.Form (λ j. j.disk) c.args.self.now c.args.self.now (same_disk g.D.Disk c.args.self.now.disk)
 
 pub returns-in-Err-clause-at : goal.returns-in-Err-clause-at
 returns-in-Err-clause-at g c = λ f at. at
 
 pub returns-in-Err-clause-keeps : goal.returns-in-Err-clause-keeps
-returns-in-Err-clause-keeps g c =
-    let d = g.D.Disk in
-    let j = c.args.self.now in
-    kept_same g.F.Form.head g.F.Form.area g.F.Form.following (λ j. j.disk) d.content d.may_leave d.moment d.left_since j j (same_keeps d.content d.may_leave d.moment d.left_since j.disk)
+returns-in-Err-clause-keeps g c = found_keeps g.D.Disk g.F.Form (λ j. j.disk) c.args.self.now c.args.self.now (same_disk g.D.Disk c.args.self.now.disk)
+
+-- ---- whatever the disk answers
 
 pub returns-in-Ok-reserve-clause-at : goal.returns-in-Ok-reserve-clause-at
-returns-in-Ok-reserve-clause-at g c = λ f at up.
-    let d = g.D.Disk in
-    still_at g.F.Form.head g.F.Form.area g.F.Form.following d.content d.may_leave d.moment d.left_since c.args.self.now.disk c.reserve.new.disk c.args.self.now.log f c.reserve.ensures.keeps (at c.if-self.false)
-
-pub returns-in-Ok-reserve-clause-keeps : goal.returns-in-Ok-reserve-clause-keeps
-returns-in-Ok-reserve-clause-keeps g c =
-    let d = g.D.Disk in
-    kept_same g.F.Form.head g.F.Form.area g.F.Form.following (λ j. j.disk) d.content d.may_leave d.moment d.left_since c.args.self.now _ c.reserve.ensures.keeps
-
-pub returns-in-Err-Failed-clause-keeps : goal.returns-in-Err-Failed-clause-keeps
-returns-in-Err-Failed-clause-keeps g c =
-    let d = g.D.Disk in
-    kept_same g.F.Form.head g.F.Form.area g.F.Form.following (λ j. j.disk) d.content d.may_leave d.moment d.left_since c.args.self.now _ c.reserve.ensures.keeps
+returns-in-Ok-reserve-clause-at g c = λ f at up. still_at g.D.Disk g.F.Form c.args.self.now.disk c.reserve.new.disk c.reserve.ensures.keeps c.args.self.now.log f (at c.if-self.false)
 
 pub returns-clause-at : goal.returns-clause-at
-returns-clause-at g c = λ f at up.
-    let d = g.D.Disk in
-    still_at g.F.Form.head g.F.Form.area g.F.Form.following d.content d.may_leave d.moment d.left_since c.args.self.now.disk c.reserve.new.disk c.args.self.now.log f c.reserve.ensures.keeps (at c.if-self.false)
+returns-clause-at g c = λ f at up. still_at g.D.Disk g.F.Form c.args.self.now.disk c.reserve.new.disk c.reserve.ensures.keeps c.args.self.now.log f (at c.if-self.false)
+
+pub returns-in-Ok-reserve-clause-keeps : goal.returns-in-Ok-reserve-clause-keeps
+returns-in-Ok-reserve-clause-keeps g c = found_keeps g.D.Disk g.F.Form (λ j. j.disk) c.args.self.now _ c.reserve.ensures.keeps
+
+pub returns-in-Ok-reserve-clause-within : goal.returns-in-Ok-reserve-clause-within
+returns-in-Ok-reserve-clause-within g c = kept_within g.D.Disk g.F.Form c.args.self.now.disk c.reserve.new.disk c.reserve.ensures.keeps
+
+pub returns-in-Err-Failed-clause-keeps : goal.returns-in-Err-Failed-clause-keeps
+returns-in-Err-Failed-clause-keeps g c = found_keeps g.D.Disk g.F.Form (λ j. j.disk) c.args.self.now _ c.reserve.ensures.keeps
+
+pub returns-in-Err-Failed-clause-within : goal.returns-in-Err-Failed-clause-within
+returns-in-Err-Failed-clause-within g c = kept_within g.D.Disk g.F.Form c.args.self.now.disk c.reserve.new.disk c.reserve.ensures.keeps
 
 pub returns-clause-keeps : goal.returns-clause-keeps
-returns-clause-keeps g c =
-    let d = g.D.Disk in
-    kept_same g.F.Form.head g.F.Form.area g.F.Form.following (λ j. j.disk) d.content d.may_leave d.moment d.left_since c.args.self.now _ c.reserve.ensures.keeps
+returns-clause-keeps g c = found_keeps g.D.Disk g.F.Form (λ j. j.disk) c.args.self.now _ c.reserve.ensures.keeps
+
+pub returns-clause-within : goal.returns-clause-within
+returns-clause-within g c = kept_within g.D.Disk g.F.Form c.args.self.now.disk c.reserve.new.disk c.reserve.ensures.keeps
 
 -- where the log stands
 pub spell-requires-clause-first : goal.spell-requires-clause-first
@@ -79,21 +74,3 @@ returns-in-Ok-reserve-clause-fits g c = λ log at. subst (λ (l : Log). change_f
 
 pub returns-in-Err-Failed-clause-fits_too : goal.returns-in-Err-Failed-clause-fits_too
 returns-in-Err-Failed-clause-fits_too g c = λ is log at. subst (λ (l : Log). change_fits l c.args.state.now.store c.args.change.now ≡ true) (sym (at c.if-self.false).is_log) c.in-Ok.ensures.fits
-
-pub returns-in-Ok-reserve-clause-within : goal.returns-in-Ok-reserve-clause-within
-returns-in-Ok-reserve-clause-within g c = λ file image longest within.
-    let d = g.D.Disk in
-    let f = g.F.Form in
-    kept_within f.head f.area f.following d.content d.may_leave d.moment d.left_since c.args.self.now.disk c.reserve.new.disk file image longest c.reserve.ensures.keeps within
-
-pub returns-in-Err-Failed-clause-within : goal.returns-in-Err-Failed-clause-within
-returns-in-Err-Failed-clause-within g c = λ file image longest within.
-    let d = g.D.Disk in
-    let f = g.F.Form in
-    kept_within f.head f.area f.following d.content d.may_leave d.moment d.left_since c.args.self.now.disk c.reserve.new.disk file image longest c.reserve.ensures.keeps within
-
-pub returns-clause-within : goal.returns-clause-within
-returns-clause-within g c = λ file image longest within.
-    let d = g.D.Disk in
-    let f = g.F.Form in
-    kept_within f.head f.area f.following d.content d.may_leave d.moment d.left_since c.args.self.now.disk c.reserve.new.disk file image longest c.reserve.ensures.keeps within

@@ -12,6 +12,64 @@ use Rattle.adr_journal.proofs.Bounded.{found_within}
 use Rattle.adr_journal.proofs.Found.{for_some, left_before, still_within, read_still, still_found}
 use Rattle.adr_journal.proofs.journal.JournalKeeper.start.Goals as goal
 
+-- ---- whatever the disk answers
+
+pub returns-in-Err-DiskFault-clause-any_moment : goal.returns-in-Err-DiskFault-clause-any_moment
+returns-in-Err-DiskFault-clause-any_moment g c = left_before g.D.Disk g.F.Form (λ j. j.disk) c.args.self.now _ c.read_synced.ensures.any_moment
+
+pub returns-in-Err-DiskFault-clause-left : goal.returns-in-Err-DiskFault-clause-left
+returns-in-Err-DiskFault-clause-left g c = λ t left. (left.0, c.read_synced.ensures.left left.0 left.1, left.2)
+
+pub returns-in-Err-DiskFault-clause-within : goal.returns-in-Err-DiskFault-clause-within
+returns-in-Err-DiskFault-clause-within g c = still_within g.D.Disk g.F.Form c.args.self.now.disk c.read_synced.new.disk c.read_synced.ensures.told c.read_synced.ensures.left
+
+pub returns-in-Err-NoMemory-clause-any_moment : goal.returns-in-Err-NoMemory-clause-any_moment
+returns-in-Err-NoMemory-clause-any_moment g c = left_before g.D.Disk g.F.Form (λ j. j.disk) c.args.self.now _ c.read_synced.ensures.any_moment
+
+pub returns-in-Err-NoMemory-clause-left : goal.returns-in-Err-NoMemory-clause-left
+returns-in-Err-NoMemory-clause-left g c = λ t left. (left.0, c.read_synced.ensures.left left.0 left.1, left.2)
+
+pub returns-in-Err-NoMemory-clause-within : goal.returns-in-Err-NoMemory-clause-within
+returns-in-Err-NoMemory-clause-within g c = still_within g.D.Disk g.F.Form c.args.self.now.disk c.read_synced.new.disk c.read_synced.ensures.told c.read_synced.ensures.left
+
+pub returns-in-Ok-replay-clause-any_moment : goal.returns-in-Ok-replay-clause-any_moment
+returns-in-Ok-replay-clause-any_moment g c = left_before g.D.Disk g.F.Form (λ j. j.disk) c.args.self.now _ c.read_synced.ensures.any_moment
+
+pub returns-in-Ok-replay-clause-left : goal.returns-in-Ok-replay-clause-left
+returns-in-Ok-replay-clause-left g c = λ t left. (left.0, c.read_synced.ensures.left left.0 left.1, left.2)
+
+pub returns-in-Ok-replay-clause-within : goal.returns-in-Ok-replay-clause-within
+returns-in-Ok-replay-clause-within g c = still_within g.D.Disk g.F.Form c.args.self.now.disk c.read_synced.new.disk c.read_synced.ensures.told c.read_synced.ensures.left
+
+pub returns-clause-any_moment : goal.returns-clause-any_moment
+returns-clause-any_moment g c = left_before g.D.Disk g.F.Form (λ j. j.disk) c.args.self.now _ c.read_synced.ensures.any_moment
+
+pub returns-clause-left : goal.returns-clause-left
+returns-clause-left g c = λ t left. (left.0, c.read_synced.ensures.left left.0 left.1, left.2)
+
+pub returns-clause-within : goal.returns-clause-within
+returns-clause-within g c = still_within g.D.Disk g.F.Form c.args.self.now.disk c.read_synced.new.disk c.read_synced.ensures.told c.read_synced.ensures.left
+
+-- ---- where it is refused
+
+pub returns-in-Err-NoMemory-clause-still : goal.returns-in-Err-NoMemory-clause-still
+returns-in-Err-NoMemory-clause-still g c =
+    let d = g.D.Disk in
+    let old = c.args.self.now in
+    let new = c.read_synced.new.disk in
+    still_found d g.F.Form (λ j. j.disk) old (record old { disk = new }) (NoMemory c.in-Err-NoMemory.settled)
+    (subst (λ e. StillReads d.content d.may_leave d.moment d.left_since e old.disk new) c.in-Err-NoMemory.field-0-is c.in-Err-NoMemory.ensures.still)
+
+pub returns-clause-still : goal.returns-clause-still
+returns-clause-still g c =
+    let d = g.D.Disk in
+    let old = c.args.self.now in
+    let new = c.read_synced.new.disk in
+    still_found d g.F.Form (λ j. j.disk) old (record old { disk = new }) c.in-Err.refusal
+    (read_still d.content d.may_leave d.moment d.left_since old.disk new c.in-Err.refusal (λ is. c.in-Err.ensures.settled (ap Err is)) (c.in-Ok.ensures.same, c.in-Ok.ensures.synced))
+
+-- ---- where it is found
+
 pub returns-in-Ok-replay-clause-ok : goal.returns-in-Ok-replay-clause-ok
 returns-in-Ok-replay-clause-ok g c =
     let d = g.D.Disk in
@@ -44,78 +102,6 @@ returns-in-Ok-replay-clause-ok g c =
       }),
       if_mapped (start_of f.head f.area f.following) (d.content old) _ (λ there told. stands l s log there (rests there told)),
     )
-
-pub returns-in-Err-DiskFault-clause-any_moment : goal.returns-in-Err-DiskFault-clause-any_moment
-returns-in-Err-DiskFault-clause-any_moment g c =
-    let d = g.D.Disk in
-    left_before g.F.Form.head g.F.Form.area g.F.Form.following (λ j. j.disk) d.may_leave d.moment d.left_since c.args.self.now _ c.read_synced.ensures.any_moment
-
-pub returns-in-Err-DiskFault-clause-left : goal.returns-in-Err-DiskFault-clause-left
-returns-in-Err-DiskFault-clause-left g c = λ t left. (left.0, c.read_synced.ensures.left left.0 left.1, left.2)
-
-pub returns-in-Err-NoMemory-clause-any_moment : goal.returns-in-Err-NoMemory-clause-any_moment
-returns-in-Err-NoMemory-clause-any_moment g c =
-    let d = g.D.Disk in
-    left_before g.F.Form.head g.F.Form.area g.F.Form.following (λ j. j.disk) d.may_leave d.moment d.left_since c.args.self.now _ c.read_synced.ensures.any_moment
-
-pub returns-in-Err-NoMemory-clause-left : goal.returns-in-Err-NoMemory-clause-left
-returns-in-Err-NoMemory-clause-left g c = λ t left. (left.0, c.read_synced.ensures.left left.0 left.1, left.2)
-
-pub returns-in-Ok-replay-clause-any_moment : goal.returns-in-Ok-replay-clause-any_moment
-returns-in-Ok-replay-clause-any_moment g c =
-    let d = g.D.Disk in
-    left_before g.F.Form.head g.F.Form.area g.F.Form.following (λ j. j.disk) d.may_leave d.moment d.left_since c.args.self.now _ c.read_synced.ensures.any_moment
-
-pub returns-in-Ok-replay-clause-left : goal.returns-in-Ok-replay-clause-left
-returns-in-Ok-replay-clause-left g c = λ t left. (left.0, c.read_synced.ensures.left left.0 left.1, left.2)
-
-pub returns-clause-any_moment : goal.returns-clause-any_moment
-returns-clause-any_moment g c =
-    let d = g.D.Disk in
-    left_before g.F.Form.head g.F.Form.area g.F.Form.following (λ j. j.disk) d.may_leave d.moment d.left_since c.args.self.now _ c.read_synced.ensures.any_moment
-
-pub returns-clause-left : goal.returns-clause-left
-returns-clause-left g c = λ t left. (left.0, c.read_synced.ensures.left left.0 left.1, left.2)
-
-pub returns-in-Err-NoMemory-clause-still : goal.returns-in-Err-NoMemory-clause-still
-returns-in-Err-NoMemory-clause-still g c =
-    let d = g.D.Disk in
-    let old = c.args.self.now in
-    let new = c.read_synced.new.disk in
-    still_found g.F.Form.head g.F.Form.area g.F.Form.following (λ j. j.disk) d.content d.may_leave d.moment d.left_since old (record old { disk = new }) (NoMemory c.in-Err-NoMemory.settled)
-    (subst (λ e. StillReads d.content d.may_leave d.moment d.left_since e old.disk new) c.in-Err-NoMemory.field-0-is c.in-Err-NoMemory.ensures.still)
-
-pub returns-clause-still : goal.returns-clause-still
-returns-clause-still g c =
-    let d = g.D.Disk in
-    let old = c.args.self.now in
-    let new = c.read_synced.new.disk in
-    still_found g.F.Form.head g.F.Form.area g.F.Form.following (λ j. j.disk) d.content d.may_leave d.moment d.left_since old (record old { disk = new }) c.in-Err.refusal
-    (read_still d.content d.may_leave d.moment d.left_since old.disk new c.in-Err.refusal (λ is. c.in-Err.ensures.settled (ap Err is)) (c.in-Ok.ensures.same, c.in-Ok.ensures.synced))
-
-pub returns-in-Err-DiskFault-clause-within : goal.returns-in-Err-DiskFault-clause-within
-returns-in-Err-DiskFault-clause-within g c = λ file image longest within.
-    let d = g.D.Disk in
-    let f = g.F.Form in
-    still_within f.head f.area f.following d.content d.may_leave c.args.self.now.disk c.read_synced.new.disk file image longest c.read_synced.ensures.told c.read_synced.ensures.left within
-
-pub returns-in-Err-NoMemory-clause-within : goal.returns-in-Err-NoMemory-clause-within
-returns-in-Err-NoMemory-clause-within g c = λ file image longest within.
-    let d = g.D.Disk in
-    let f = g.F.Form in
-    still_within f.head f.area f.following d.content d.may_leave c.args.self.now.disk c.read_synced.new.disk file image longest c.read_synced.ensures.told c.read_synced.ensures.left within
-
-pub returns-in-Ok-replay-clause-within : goal.returns-in-Ok-replay-clause-within
-returns-in-Ok-replay-clause-within g c = λ file image longest within.
-    let d = g.D.Disk in
-    let f = g.F.Form in
-    still_within f.head f.area f.following d.content d.may_leave c.args.self.now.disk c.read_synced.new.disk file image longest c.read_synced.ensures.told c.read_synced.ensures.left within
-
-pub returns-clause-within : goal.returns-clause-within
-returns-clause-within g c = λ file image longest within.
-    let d = g.D.Disk in
-    let f = g.F.Form in
-    still_within f.head f.area f.following d.content d.may_leave c.args.self.now.disk c.read_synced.new.disk file image longest c.read_synced.ensures.told c.read_synced.ensures.left within
 
 pub returns-in-Ok-replay-clause-within_found : goal.returns-in-Ok-replay-clause-within_found
 returns-in-Ok-replay-clause-within_found g c = λ log is_at.
