@@ -5,7 +5,7 @@ ghost use Rattle.std.specs.Prelude.{◌≡◌, ◌++◌, ℕ, List, OnOk, flat_m
 use adr_schema::NoMemory;
 
 /// What has a text.
-pub trait Told {
+pub trait PushText {
     ghost text: { Self → List ℕ };
 
     /// Adds the text.
@@ -14,7 +14,7 @@ pub trait Told {
 }
 
 /// Adds the text of each.
-pub fn push_each<T: Told>(out: &mut Vec<u8>, list: &[T]) -> Result<(), NoMemory>
+pub fn push_each<T: PushText>(out: &mut Vec<u8>, list: &[T]) -> Result<(), NoMemory>
     ensures { OnOk result (out.new.items ≡ out.old.items ++ flat_map T.text list.now) }
 {
     for item in list {

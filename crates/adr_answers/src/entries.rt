@@ -1,10 +1,10 @@
 //! The lines of entries.
 
-ghost use Rattle.std.specs.Prelude.{◌≡◌, ◌++◌, ℕ, List, OnOk, codes};
+ghost use Rattle.std.specs.Prelude.{◌≡◌, ◌++◌, ℕ, List, OnOk, codes, flat_map};
 ghost use Rattle.adr_token.specs.Spelling.{identifier_token, text_token, class_token, attribute_token};
 ghost use Rattle.adr_answers.specs.Line.{listed, values_text, links_text, entry_line};
 
-use crate::each::{Told, push_each};
+use crate::each::{PushText, push_each};
 use adr_call::{Entry, Guids};
 use adr_guid::Guid;
 use adr_schema::{NoMemory, Values};
@@ -19,7 +19,7 @@ fn push_attribute_sign(out: &mut Vec<u8>, attr: u16) -> Result<(), NoMemory>
 }
 
 // An attribute with its values.
-impl Told for (u16, Values) {
+impl PushText for (u16, Values) {
     ghost text = { values_text };
 
     #[tactic(auto, unfolding(crate::specs::Line::values_text))]
@@ -29,14 +29,16 @@ impl Told for (u16, Values) {
     }
 }
 
-// A GUID behind others.
-impl Told for Guid {
-    ghost text = { λ (i : List ℕ). codes "," ++ identifier_token i };
-
-    fn push_to(&self, out: &mut Vec<u8>) -> Result<(), NoMemory> {
+/// Adds GUIDs, each behind a comma.
+fn push_further_guids(out: &mut Vec<u8>, guids: &[Guid]) -> Result<(), NoMemory>
+    ensures { OnOk result (out.new.items
+        ≡ out.old.items ++ flat_map (λ (i : List ℕ). codes "," ++ identifier_token i) guids.now) }
+{
+    for guid in guids {
         push(out, b",")?;
-        push_identifier(out, *self)
+        push_identifier(out, *guid)?;
     }
+    Ok(())
 }
 
 fn push_listed_guids(out: &mut Vec<u8>, guids: &[Guid]) -> Result<(), NoMemory>
@@ -46,13 +48,13 @@ fn push_listed_guids(out: &mut Vec<u8>, guids: &[Guid]) -> Result<(), NoMemory>
         None => Ok(()),
         Some((first, rest)) => {
             push_identifier(out, *first)?;
-            push_each(out, rest)
+            push_further_guids(out, rest)
         }
     }
 }
 
 // A link attribute with the GUIDs at its other ends.
-impl Told for (u16, Guids) {
+impl PushText for (u16, Guids) {
     ghost text = { links_text };
 
     #[tactic(auto, unfolding(crate::specs::Line::links_text))]
@@ -87,7 +89,7 @@ fn push_place(out: &mut Vec<u8>, entry: &Entry) -> Result<(), NoMemory>
 }
 
 // An entry's line.
-impl Told for Entry {
+impl PushText for Entry {
     ghost text = { entry_line };
 
     #[tactic(auto, unfolding(crate::specs::Line::entry_line))]

@@ -6,7 +6,7 @@ ghost use Rattle.adr_token.specs.Room.{TakesRoom};
 ghost use Rattle.adr_token.specs.Spelling.{identifier_token};
 ghost use Rattle.adr_answers.specs.Line.{mark_text, cursor_line, partner_line};
 
-use crate::each::Told;
+use crate::each::PushText;
 use adr_guid::Guid;
 use adr_schema::NoMemory;
 use adr_token::{push, push_identifier, push_number};
@@ -42,7 +42,7 @@ fn push_first_identifier(out: &mut Vec<u8>, id: Guid) -> Result<(), NoMemory>
 }
 
 // A vector's cursor.
-impl Told for (Guid, u64) {
+impl PushText for (Guid, u64) {
     ghost text = { cursor_line };
 
     #[tactic(auto, unfolding(crate::specs::Line::cursor_line))]
@@ -54,7 +54,7 @@ impl Told for (Guid, u64) {
 }
 
 // A partner's mark.
-impl Told for (Guid, Guid, Mark) {
+impl PushText for (Guid, Guid, Mark) {
     ghost text = { partner_line };
 
     #[tactic(auto, unfolding(crate::specs::Line::partner_line))]

@@ -5,7 +5,7 @@ ghost use Rattle.std.specs.Fmt.{decimal};
 ghost use Rattle.adr_token.specs.Spelling.{attribute_token, identifier_token, text_token};
 ghost use Rattle.adr_answers.specs.Line.{life_text, meta_line};
 
-use crate::each::Told;
+use crate::each::PushText;
 use crate::knowledge::push_number_behind;
 use adr_call::{Birth, Life, MetaLine, Stamp, Text};
 use adr_guid::Guid;
@@ -77,7 +77,7 @@ fn push_row(out: &mut Vec<u8>, attr: u16, stamp: Stamp, local: u64) -> Result<()
     push(out, b"\n")
 }
 
-impl Told for MetaLine {
+impl PushText for MetaLine {
     ghost text = { meta_line };
 
     #[tactic(auto, unfolding(crate::specs::Line::meta_line))]

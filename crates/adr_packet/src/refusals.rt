@@ -10,7 +10,9 @@ use crate::refusal::Refusal;
 use adr_call::ServeRefusal;
 use adr_cycle::NoMemory;
 use adr_guid::Guid;
-use adr_wire::{DecodeRefusal, Failure, Malformed, Reader, WireRefusal, Writer, malformed};
+use adr_wire::{
+    DecodeRefusal, Failure, Malformed, Reader, WireRefusal, Writer, malformed, open_message,
+};
 use std::alloc::Global;
 
 /// The bytes with which a refusal begins.
@@ -131,14 +133,7 @@ pub fn decode_refusal(bytes: &[u8]) -> Result<Refusal, Failure<DecodeRefusal>>
     ensures read { IfOk result (λ refusal. form.decoded_refusal bytes.now ≡ Ok refusal) }
     ensures refused { IfErr result (IsRefusedSo (form.decoded_refusal bytes.now)) }
 {
-    let mut reader = Reader::new(bytes);
-    let found = match reader.read_head(&MAGIC) {
-        Ok(found) => found,
-        Err(refusal) => return Err(malformed(refusal)),
-    };
-    if found != VERSION {
-        return Err(Failure::Refused(DecodeRefusal::WrongVersion { found }));
-    }
+    let mut reader = open_message(bytes, &MAGIC, VERSION)?;
     match read_to_end(&mut reader) {
         Ok(refusal) => Ok(refusal),
         Err(refusal) => Err(malformed(refusal)),

@@ -9,7 +9,7 @@ ghost use Rattle.adr_packet.specs.Replies as form;
 use crate::items::{read_items, write_items};
 use crate::parts::{read_last, read_parties, read_reach, write_last, write_parties, write_reach};
 use adr_cycle::{Item, NoMemory, Reply, Vector};
-use adr_wire::{DecodeRefusal, Failure, Reader, WireRefusal, Writer, malformed};
+use adr_wire::{DecodeRefusal, Failure, Reader, WireRefusal, Writer, malformed, open_message};
 use std::alloc::Global;
 
 /// The bytes with which a reply begins.
@@ -58,14 +58,7 @@ pub fn decode_reply(alloc: Global, bytes: &[u8]) -> Result<Reply, Failure<Decode
     ensures read { IfOk result (λ reply. form.decoded_reply bytes.now ≡ Ok reply) }
     ensures refused { IfErr result (IsRefusedSo (form.decoded_reply bytes.now)) }
 {
-    let mut reader = Reader::new(bytes);
-    let found = match reader.read_head(&MAGIC) {
-        Ok(found) => found,
-        Err(refusal) => return Err(malformed(refusal)),
-    };
-    if found != VERSION {
-        return Err(Failure::Refused(DecodeRefusal::WrongVersion { found }));
-    }
+    let mut reader = open_message(bytes, &MAGIC, VERSION)?;
     match read_to_end(&mut reader, alloc) {
         Ok(reply) => Ok(reply),
         Err(refusal) => Err(malformed(refusal)),

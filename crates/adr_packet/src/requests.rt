@@ -7,7 +7,9 @@ ghost use Rattle.adr_packet.specs.Requests as form;
 
 use crate::parts::{read_parties, write_parties};
 use adr_cycle::{NoMemory, Request};
-use adr_wire::{DecodeRefusal, Failure, Malformed, Reader, WireRefusal, Writer, malformed};
+use adr_wire::{
+    DecodeRefusal, Failure, Malformed, Reader, WireRefusal, Writer, malformed, open_message,
+};
 use std::alloc::Global;
 
 /// The bytes with which a request begins.
@@ -55,14 +57,7 @@ pub fn decode_request(alloc: Global, bytes: &[u8]) -> Result<Request, Failure<De
     ensures read { IfOk result (λ request. form.decoded_request bytes.now ≡ Ok request) }
     ensures refused { IfErr result (IsRefusedSo (form.decoded_request bytes.now)) }
 {
-    let mut reader = Reader::new(bytes);
-    let found = match reader.read_head(&MAGIC) {
-        Ok(found) => found,
-        Err(refusal) => return Err(malformed(refusal)),
-    };
-    if found != VERSION {
-        return Err(Failure::Refused(DecodeRefusal::WrongVersion { found }));
-    }
+    let mut reader = open_message(bytes, &MAGIC, VERSION)?;
     match read_to_end(&mut reader, alloc) {
         Ok(request) => Ok(request),
         Err(refusal) => Err(malformed(refusal)),
