@@ -7,7 +7,7 @@ ghost use Rattle.adr_model.specs.Serve.{is_quarantined};
 ghost use Rattle.adr_change.specs.Mode.{mode_of};
 
 use crate::NoMemory;
-use crate::kept::Kept;
+use crate::partner_mark::PartnerMark;
 use adr_checks::Schema;
 use adr_guid::Guid;
 use adr_stamp::Oid;
@@ -43,7 +43,7 @@ pub struct Change {
     usn: u64,
     mode: Mode,
     schema: Schema,
-    mark: Option<(Guid, Kept)>,
+    mark: Option<(Guid, PartnerMark)>,
     joined: Vector,
     purged: Vector,
     removed: Vec<Oid>,
@@ -84,7 +84,7 @@ impl Change {
         usn: u64,
         mode: Mode,
         schema: Schema,
-        mark: Option<(Guid, Kept)>,
+        mark: Option<(Guid, PartnerMark)>,
         joined: Vector,
         purged: Vector,
         removed: Vec<Oid>,
@@ -128,7 +128,7 @@ impl Change {
     }
 
     /// A partner, and what is kept of it from now on.
-    pub fn mark(&self) -> Option<(Guid, Kept)>
+    pub fn mark(&self) -> Option<(Guid, PartnerMark)>
         ensures { result ≡ self.now.mark }
     {
         self.mark

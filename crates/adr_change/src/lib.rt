@@ -7,9 +7,9 @@
 
 mod change;
 mod covering;
-mod kept;
+mod partner_mark;
 
 pub use adr_update::NoMemory;
 pub use change::{Change, Mode};
 pub use covering::{covers_birth, covers_update};
-pub use kept::{Kept, no_mark};
+pub use partner_mark::{PartnerMark, no_mark};

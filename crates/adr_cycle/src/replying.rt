@@ -7,7 +7,7 @@ ghost use Rattle.adr_model.specs.Serve.{begins_at, byte_limit, candidates, first
 
 use crate::candidates::{is_none_behind, next_candidate};
 use crate::{NoMemory, Reply, Request};
-use adr_state::{Item, Kept, Rows, State, item_length_within};
+use adr_state::{Item, PartnerMark, Rows, State, item_length_within};
 use adr_vector::{Mark, Vector};
 use std::alloc::Global;
 
@@ -30,7 +30,7 @@ pub fn reply_to(alloc: Global, state: &State, request: &Request) -> Result<Reply
 pub fn begins_at(state: &State, request: &Request) -> Mark
     ensures { result ≡ begins_at state.now request.now }
 {
-    Kept::new(request.inv(), request.mark()).mark_of(state.inv())
+    PartnerMark::new(request.inv(), request.mark()).mark_of(state.inv())
 }
 
 /// The first items: until there are so many, or so many bytes or more.

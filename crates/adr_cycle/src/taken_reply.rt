@@ -12,8 +12,8 @@ use crate::{NoMemory, Reply};
 use adr_call::{Failure, Table, TakeRefusal};
 use adr_overlay::len_after;
 use adr_state::{
-    CURSOR_LIMIT, Change, Kept, LINK_LIMIT, MARK_LIMIT, Mode, OBJECT_LIMIT, State, USN_LIMIT,
-    is_same,
+    CURSOR_LIMIT, Change, LINK_LIMIT, MARK_LIMIT, Mode, OBJECT_LIMIT, PartnerMark, State,
+    USN_LIMIT, is_same,
 };
 use adr_vector::{Mark, Vector};
 use std::alloc::Global;
@@ -153,7 +153,7 @@ fn taken_change(
 {
     reply.tells_no_times();
     let joined = joined_by(alloc, reply)?;
-    let mark = Kept::new(reply.inv(), reply.to());
+    let mark = PartnerMark::new(reply.inv(), reply.to());
     Ok(Change::new(
         taking.usn(),
         Mode::Normal,

@@ -7,10 +7,10 @@ use Rattle.adr_io.specs.declared.Fault.{Fault}
 use Rattle.adr_io.specs.declared.Fault.TheVariants.{Failed, NoMemory}
 use Rattle.adr_disk.specs.Disk.{put, Torn as TornBy, After, Only, Elapses, Writes, Syncs, ended}
 use Rattle.adr_disk.specs.Memory.{Write, Surface, Held, DiskState, over, read_of, MayLeave, IsImage, IsImageOfOne, torn_half, torn_write, left_by, all_synced, with_write, after_write, after_end, SameBytes, SameState, meets, failed, Does}
-use Rattle.adr_disk.specs.declared.memory.Crash.{Crash as HowToCrash}
+use Rattle.adr_disk.specs.declared.memory.Crash.{Crash}
 use Rattle.adr_disk.specs.declared.memory.Crash.TheVariants.{Kept, Lost, Torn}
 use Rattle.adr_disk.specs.declared.memory.Mishap.{Mishap}
-use Rattle.adr_disk.specs.declared.memory.Mishap.TheVariants.{Failure, Crash}
+use Rattle.adr_disk.specs.declared.memory.Mishap.TheVariants.{Fails, Stops}
 use Rattle.adr_disk.proofs.Bytes.{Torn-same, Torn-put}
 use Rattle.adr_disk.proofs.Honest.{MayLeave-over}
 use Rattle.adr_disk.proofs.Writes.{length-torn_half, over-append}
@@ -32,13 +32,13 @@ MayLeave-torn [] s = refl
 MayLeave-torn (w ∷ ws) s = (put s w.at (torn_half w.bytes), Torn-put s w.at (length w.bytes) (torn_half w.bytes) (length-torn_half w.bytes), MayLeave-torn ws (put s w.at (torn_half w.bytes)))
 
 -- each crash leaves an image
-pub IsImage-left_by : (how : HowToCrash) (s : Surface) → IsImage s (left_by how s)
+pub IsImage-left_by : (how : Crash) (s : Surface) → IsImage s (left_by how s)
 IsImage-left_by Kept s = MayLeave-over s.written s.synced
 IsImage-left_by Lost s = MayLeave-none s.written s.synced
 IsImage-left_by Torn s = MayLeave-torn s.written s.synced
 
 -- so that it adds none
-pub IsImage-after_end : (how : HowToCrash) (h : Held) (bytes : List ℕ) → IsImage (after_end how h).surface bytes → IsImage h.surface bytes
+pub IsImage-after_end : (how : Crash) (h : Held) (bytes : List ℕ) → IsImage (after_end how h).surface bytes → IsImage h.surface bytes
 IsImage-after_end how h bytes left = ⊎_elim
     (λ (some : 0 < length h.surface.written).
     let is : bytes ≡ left_by how h.surface = subst (λ (g : Held). IsImage g.surface bytes) (after_end_some how h some) left in
@@ -91,7 +91,7 @@ module _ (outcomes : List ℕ → Type 0) where
   pub Goes-write : (w : Write) (h : Held) → ((bytes : List ℕ) → IsImage (with_write h.surface w) bytes → outcomes bytes) → Goes h (after_write w h) outcomes
   Goes-write w h here = Goes-on h.surface (with_write h.surface w) h.past here
 
-  pub Goes-end : (how : HowToCrash) (h : Held) → ((bytes : List ℕ) → IsImage h.surface bytes → outcomes bytes) → Goes h (after_end how h) outcomes
+  pub Goes-end : (how : Crash) (h : Held) → ((bytes : List ℕ) → IsImage h.surface bytes → outcomes bytes) → Goes h (after_end how h) outcomes
   Goes-end how h here = ⊎_elim
       (λ (some : 0 < length h.surface.written).
       subst (λ (g : Held). Goes h g outcomes) (sym (after_end_some how h some))
@@ -103,15 +103,15 @@ module _ (outcomes : List ℕ → Type 0) where
 pub data Wrote (w : Write) (h new : Held) : Type 0 where
   Nothing : SameBytes h new → Wrote w h new
   Done : SameBytes (after_write w h) new → Wrote w h new
-  Cut : (how : HowToCrash) → SameBytes (after_end how (after_write w h)) new → Wrote w h new
+  Cut : (how : Crash) → SameBytes (after_end how (after_write w h)) new → Wrote w h new
 
 abbrev write_of : ℕ → List ℕ → Write
 write_of at bytes = record { at = at; bytes = bytes }
 
 wrote_failed : (at : ℕ) (bytes : List ℕ) (old new : DiskState) (met : Option Mishap) → IsSomeAnd met (λ mishap. SameState (failed mishap (Writes at bytes) old) new) → Wrote (write_of at bytes) old.held new.held
 wrote_failed at bytes old new None is = absurd is
-wrote_failed at bytes old new (Some Failure) is = Nothing is.held
-wrote_failed at bytes old new (Some (Crash how)) is = Cut how is.held
+wrote_failed at bytes old new (Some Fails) is = Nothing is.held
+wrote_failed at bytes old new (Some (Stops how)) is = Cut how is.held
 
 pub wrote : (at : ℕ) (bytes : List ℕ) (old new : DiskState) (end : Option Fault) → Does old (Writes at bytes) end new → Wrote (write_of at bytes) old.held new.held
 wrote at bytes old new None does = Done does.1.held
@@ -145,12 +145,12 @@ write_time w h new (Cut how same) = Goes-then (Outcomes w h) h (after_end how (a
 -- what a sync has done: nothing, or an end of the unsynced writes
 pub data Synced (h new : Held) : Type 0 where
   Idle : SameBytes h new → Synced h new
-  Ended : (how : HowToCrash) → SameBytes (after_end how h) new → Synced h new
+  Ended : (how : Crash) → SameBytes (after_end how h) new → Synced h new
 
 synced_failed : (old new : DiskState) (met : Option Mishap) → IsSomeAnd met (λ mishap. SameState (failed mishap Syncs old) new) → Synced old.held new.held
 synced_failed old new None is = absurd is
-synced_failed old new (Some Failure) is = Idle is.held
-synced_failed old new (Some (Crash how)) is = Ended how is.held
+synced_failed old new (Some Fails) is = Idle is.held
+synced_failed old new (Some (Stops how)) is = Ended how is.held
 
 pub synced : (old new : DiskState) (end : Option Fault) → Does old Syncs end new → Synced old.held new.held
 synced old new None does = Ended Kept does.1.held

@@ -3,10 +3,10 @@ use Rattle.std.specs.Prelude.{◌≡◌, ◌==◌, ℕ, ◌+◌, ◌-◌, ◌/�
 use Rattle.adr_io.specs.declared.Fault.{Fault}
 use Rattle.adr_io.specs.declared.Fault.TheVariants.{Failed, NoMemory}
 use Rattle.adr_disk.specs.Disk.{put, Torn as TornBy, Call, Writes, Syncs, Looks}
-use Rattle.adr_disk.specs.declared.memory.Crash.{Crash as HowToCrash}
+use Rattle.adr_disk.specs.declared.memory.Crash.{Crash}
 use Rattle.adr_disk.specs.declared.memory.Crash.TheVariants.{Kept, Lost, Torn}
 use Rattle.adr_disk.specs.declared.memory.Mishap.{Mishap}
-use Rattle.adr_disk.specs.declared.memory.Mishap.TheVariants.{Failure, Crash}
+use Rattle.adr_disk.specs.declared.memory.Mishap.TheVariants.{Fails, Stops}
 use Rattle.adr_disk.specs.declared.memory.Plan.{Plan}
 
 -- bytes written at a place
@@ -63,7 +63,7 @@ abbrev pub torn_write : Write → Write
 torn_write w = record { at = w.at; bytes = torn_half w.bytes }
 
 -- what a crash leaves
-abbrev pub left_by : HowToCrash → Surface → List ℕ
+abbrev pub left_by : Crash → Surface → List ℕ
 left_by Kept s = read_of s
 left_by Lost s = s.synced
 left_by Torn s = over s.synced (map torn_write s.written)
@@ -78,7 +78,7 @@ abbrev pub after_write : Write → Held → Held
 after_write w h = record h { surface = with_write h.surface w; past = h.past ++ h.surface ∷ [] }
 
 -- after a sync, which keeps all unsynced writes, or after a crash. Where there are none, nothing happens.
-abbrev pub after_end : HowToCrash → Held → Held
+abbrev pub after_end : Crash → Held → Held
 after_end how h = if length h.surface.written == 0 then h else record h { surface = all_synced (left_by how h.surface); past = h.past ++ h.surface ∷ [] }
 
 -- the same but for the room
@@ -100,7 +100,7 @@ planned (Some plan) call = if plan.calls == 0 then Some plan.mishap else None
 
 -- what becomes of a call: nothing but what it is for, or a mishap
 abbrev pub meets : DiskState → Call → Option Mishap
-meets d call = if d.stopped then Some Failure else planned d.plan call
+meets d call = if d.stopped then Some Fails else planned d.plan call
 
 -- the plan after a call that passed
 abbrev pub one_less : Option Plan → Option Plan
@@ -120,13 +120,13 @@ begun Syncs h = h
 begun Looks h = h
 
 -- after a crash now, which drops the plan
-abbrev pub crashed : HowToCrash → DiskState → DiskState
+abbrev pub crashed : Crash → DiskState → DiskState
 crashed how d = record d { held = after_end how d.held; plan = None; stopped = true }
 
 -- after a call that met a mishap. While it is stopped, a plan stays.
 abbrev pub failed : Mishap → Call → DiskState → DiskState
-failed Failure call d = record d { plan = if d.stopped then d.plan else None; faults = d.faults + 1 }
-failed (Crash how) call d = record (crashed how (record d { held = begun call d.held })) { faults = d.faults + 1 }
+failed Fails call d = record d { plan = if d.stopped then d.plan else None; faults = d.faults + 1 }
+failed (Stops how) call d = record (crashed how (record d { held = begun call d.held })) { faults = d.faults + 1 }
 
 -- what a call does: it passes, or fails as planned, or memory is wanting and nothing changes
 abbrev pub Does : DiskState → Call → Option Fault → DiskState → Type 0

@@ -15,9 +15,9 @@ pub enum Crash {
 #[derive(Clone, Copy)]
 pub enum Mishap {
     /// It fails, and changes nothing.
-    Failure,
-    /// The disk crashes within it.
-    Crash(Crash),
+    Fails,
+    /// The disk stops within it: it crashes so.
+    Stops(Crash),
 }
 
 /// So many writes and syncs pass, and the next meets a mishap.

@@ -11,7 +11,7 @@ use Rattle.adr_vector.specs.declared.mark.Mark.{Mark}
 use Rattle.adr_stamp.specs.Order.{identifier_order, object_order, link_order}
 use Rattle.adr_schema.specs.Table.{Table, has}
 use Rattle.adr_model.specs.Update.{Identifier}
-use Rattle.adr_model.specs.Store.{Kept}
+use Rattle.adr_model.specs.Store.{PartnerMark}
 use Rattle.adr_model.specs.Live.{is_among}
 use Rattle.adr_wire.specs.Reading.{Rest, Reading, ◌>>=◌, as_at, where_at, then_at, is_above, passing_at, gathered_at}
 use Rattle.adr_wire.specs.Fields.{u16_at, id_at, flag_at, usn_at, u16, u64, id, flag}
@@ -214,7 +214,7 @@ module _ (dead : List Oid) where
 
 -- ---- marks
 
-abbrev IsKept : Kept → Type 0
+abbrev IsKept : PartnerMark → Type 0
 IsKept k = IsId k.inv × IsOrderedMark k.mark
 
 abbrev kept_behind : Marked → List ℕ

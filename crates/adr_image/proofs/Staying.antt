@@ -22,7 +22,7 @@ use Rattle.adr_law_lengths.specs.Written.{update_of}
 use Rattle.adr_model.specs.Change.{Change, Written, after, held_of, put, rows_after, with_mark, without_object}
 use Rattle.adr_model.specs.Member.{Member, Each}
 use Rattle.adr_model.specs.Sound.{AreClassesKnown}
-use Rattle.adr_model.specs.Store.{Held, Kept, State, empty_store, updates_of}
+use Rattle.adr_model.specs.Store.{Held, PartnerMark, State, empty_store, updates_of}
 use Rattle.adr_model.specs.Update.{Identifier, Update}
 use Rattle.adr_model.proofs.Members.{flat_member, mapped_member, member_mapped, of_filter}
 use Rattle.adr_law_steps.proofs.Rows.{put_from}
@@ -82,7 +82,7 @@ joined_spelled v (c ∷ cs) all more = joined_spelled (raised v c.0 c.1) cs (rai
 
 -- ---- marks
 
-abbrev IsRightKept : Kept → Type 0
+abbrev IsRightKept : PartnerMark → Type 0
 IsRightKept k = IsId k.inv × IsMark k.mark
 
 all_in : {A : Type 0} (P : A → Type 0) (xs : List A) → Each P xs → AllByRecursion P xs

@@ -13,7 +13,7 @@ use Rattle.adr_wire.specs.Reading.{Reading, as_at, where_at, then_at, elements_a
 use Rattle.adr_wire.specs.Fields.{u16_at, id_at, usn_at, flag_at, u16, u64, id}
 use Rattle.adr_wire.specs.Composites.{oid_at, oid, Row, row_after, row, link_stamp_at, LinkItem, link, ordered_mark_at, mark}
 use Rattle.adr_model.specs.Update.{Identifier}
-use Rattle.adr_model.specs.Store.{Kept}
+use Rattle.adr_model.specs.Store.{PartnerMark}
 use Rattle.adr_model.specs.Live.{is_among}
 use Rattle.adr_model.specs.Take.{carries_birth}
 use Rattle.adr_model.specs.Write.{usn_limit}
@@ -158,7 +158,7 @@ held_link l = u64 l.0 ++ link l.1
 -- ---- marks
 
 abbrev pub Marked : Type 0
-Marked = Identifier × Kept
+Marked = Identifier × PartnerMark
 
 unfoldable pub kept_above : Option Identifier → Reading Marked
 kept_above =

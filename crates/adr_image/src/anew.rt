@@ -5,7 +5,7 @@ ghost use Rattle.adr_model.specs.Change.{held_of};
 ghost use Rattle.adr_image.specs.Anew.{MakesAll};
 
 use crate::contents::Contents;
-use adr_change::{Change, Kept, Mode};
+use adr_change::{Change, Mode, PartnerMark};
 use adr_guid::Guid;
 use adr_update::{Held, Item, NoMemory, Written};
 use std::alloc::Global;
@@ -34,7 +34,7 @@ fn writes_of(alloc: Global, rows: Vec<Held>) -> Result<Vec<Written>, NoMemory>
 
 impl Contents {
     /// The change that makes all of an empty controller but its marks, and these. No row is copied.
-    pub fn into_change(self, alloc: Global) -> Result<(Change, Vec<(Guid, Kept)>), NoMemory>
+    pub fn into_change(self, alloc: Global) -> Result<(Change, Vec<(Guid, PartnerMark)>), NoMemory>
         ensures change { IfOk result (λ made. MakesAll self made.0) }
         ensures marks { IfOk result (λ made. made.1.items ≡ self.marks) }
     {

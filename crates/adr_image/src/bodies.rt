@@ -9,7 +9,7 @@ ghost use Rattle.adr_image.specs.Changes.{AreShort, IsShortChange, change_bytes,
 ghost use Rattle.adr_image.specs.Written.{IsShortSaid};
 
 use crate::encoding::{write_kept, write_told};
-use adr_change::{Change, Kept};
+use adr_change::{Change, PartnerMark};
 use adr_guid::Guid;
 use adr_stamp::{Oid, Unit};
 use adr_update::{NoMemory, Update, Written};
@@ -95,7 +95,7 @@ fn write_removed(writer: &mut Writer, removed: &[Oid]) -> Result<(), NoMemory>
 }
 
 /// Writes whether there is a mark, and the mark.
-fn write_mark_if(writer: &mut Writer, mark: &Option<(Guid, Kept)>) -> Result<(), NoMemory>
+fn write_mark_if(writer: &mut Writer, mark: &Option<(Guid, PartnerMark)>) -> Result<(), NoMemory>
     ensures { OnOk result (writer.new ≡ writer.old ++ mark_if mark.now) }
 {
     match mark {

@@ -15,7 +15,7 @@ ghost use Rattle.adr_image.specs.Seen.{GivesSeen};
 
 use crate::links::LinkItem;
 use crate::marks::read_kept;
-use adr_change::{Change, Kept, Mode};
+use adr_change::{Change, Mode, PartnerMark};
 use adr_checks::Schema;
 use adr_guid::Guid;
 use adr_schema::Content;
@@ -143,7 +143,7 @@ fn read_removed(reader: &mut Reader<'_>, alloc: Global) -> Result<Vec<Oid>, Wire
 
 /// The mark that a change keeps, if there is one.
 #[tactic(auto, unfolding(adr_wire::specs::Optional::if_there_at))]
-fn read_mark_if(reader: &mut Reader<'_>) -> Result<Option<(Guid, Kept)>, WireRefusal>
+fn read_mark_if(reader: &mut Reader<'_>) -> Result<Option<(Guid, PartnerMark)>, WireRefusal>
     ensures { Tells result reader.new (form.mark_if_at reader.old) }
 {
     if !reader.read_flag()? {

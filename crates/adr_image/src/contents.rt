@@ -14,7 +14,7 @@ ghost use Rattle.adr_image.specs.Whole.{links_at, objects_at, parts_at};
 
 use crate::gathered::{read_links, read_objects};
 use crate::marks::read_marks;
-use adr_change::Kept;
+use adr_change::PartnerMark;
 use adr_checks::Schema;
 use adr_guid::Guid;
 use adr_update::Held;
@@ -35,7 +35,7 @@ pub struct Contents {
     /// What covers the births and deaths of the objects that were collected.
     pub purged: Vector,
     /// How far each partner was read, by its controller's identifier, rising.
-    pub marks: Vec<(Guid, Kept)>,
+    pub marks: Vec<(Guid, PartnerMark)>,
 }
 
 impl Drop for Contents {
@@ -65,7 +65,7 @@ impl Model for Contents {
 
 impl Contents {
     /// Its rows, what was seen, what was collected, and its marks.
-    pub(crate) fn into_parts(self) -> (Vec<Held>, Vector, Vector, Vec<(Guid, Kept)>)
+    pub(crate) fn into_parts(self) -> (Vec<Held>, Vector, Vector, Vec<(Guid, PartnerMark)>)
         ensures rows { result.0.items ≡ self.rows }
         ensures vector { result.1 ≡ self.vector }
         ensures purged { result.2 ≡ self.purged }
@@ -96,7 +96,7 @@ pub struct ContentsRef<'a> {
     /// What covers the births and deaths of the objects that were collected.
     pub purged: &'a Vector,
     /// How far each partner was read, by its controller's identifier, rising.
-    pub marks: &'a [(Guid, Kept)],
+    pub marks: &'a [(Guid, PartnerMark)],
 }
 
 impl<'a> Model for ContentsRef<'a> {

@@ -16,7 +16,7 @@ ghost use Rattle.adr_image.specs.Written.{HaveFewRows, IsShortSaid, IsWritable, 
 
 use crate::contents::{Contents, ContentsRef};
 use crate::decoding::{MAGIC, VERSION};
-use adr_change::Kept;
+use adr_change::PartnerMark;
 use adr_guid::Guid;
 use adr_stamp::{LinkStamp, Oid};
 use adr_update::{Held, Key, NoMemory, Said};
@@ -142,7 +142,7 @@ fn write_rows(writer: &mut Writer, rows: &[&Held]) -> Result<(), NoMemory>
 }
 
 /// Writes how far a partner was read.
-pub fn write_kept(writer: &mut Writer, mark: &(Guid, Kept)) -> Result<(), NoMemory>
+pub fn write_kept(writer: &mut Writer, mark: &(Guid, PartnerMark)) -> Result<(), NoMemory>
     ensures { OnOk result (writer.new ≡ writer.old ++ form.kept mark.now) }
 {
     writer.write_id(&mark.0)?;
@@ -151,7 +151,7 @@ pub fn write_kept(writer: &mut Writer, mark: &(Guid, Kept)) -> Result<(), NoMemo
 }
 
 /// Writes how far each partner was read.
-fn write_marks(writer: &mut Writer, marks: &[(Guid, Kept)]) -> Result<(), NoMemory>
+fn write_marks(writer: &mut Writer, marks: &[(Guid, PartnerMark)]) -> Result<(), NoMemory>
     requires { length marks.now ≤ mark_limit }
     ensures { OnOk result (writer.new ≡ writer.old ++ whole.marks marks.now) }
 {

@@ -4,7 +4,7 @@ ghost use Rattle.adr_wire.specs.Reading.{GivesAs, Tells};
 ghost use Rattle.adr_image.specs.Image.{kept_above};
 ghost use Rattle.adr_image.specs.Whole.{marks_at};
 
-use adr_change::Kept;
+use adr_change::PartnerMark;
 use adr_guid::Guid;
 use adr_update::MARK_LIMIT;
 use adr_wire::{Failure, Malformed, Reader, WireRefusal};
@@ -12,7 +12,10 @@ use std::alloc::Global;
 
 /// How far a partner behind the last one was read.
 #[tactic(auto, unfolding(crate::specs::Image::kept_above))]
-pub fn read_kept(reader: &mut Reader<'_>, last: Option<Guid>) -> Result<(Guid, Kept), WireRefusal>
+pub fn read_kept(
+    reader: &mut Reader<'_>,
+    last: Option<Guid>,
+) -> Result<(Guid, PartnerMark), WireRefusal>
     ensures { Tells result reader.new (kept_above last reader.old) }
 {
     let place = reader.place();
@@ -22,12 +25,15 @@ pub fn read_kept(reader: &mut Reader<'_>, last: Option<Guid>) -> Result<(Guid, K
     }
     let inv = reader.read_id()?;
     let mark = reader.read_ordered_mark()?;
-    Ok((partner, Kept::new(inv, mark)))
+    Ok((partner, PartnerMark::new(inv, mark)))
 }
 
 /// The marks of an image, rising by partner.
 #[tactic(auto, unfolding(crate::specs::Whole::marks_at))]
-pub fn read_marks(reader: &mut Reader<'_>, alloc: Global) -> Result<Vec<(Guid, Kept)>, WireRefusal>
+pub fn read_marks(
+    reader: &mut Reader<'_>,
+    alloc: Global,
+) -> Result<Vec<(Guid, PartnerMark)>, WireRefusal>
     ensures { GivesAs (λ marks. marks.items) result reader.new (marks_at reader.old) }
 {
     let place = reader.place();

@@ -7,7 +7,7 @@ ghost use Rattle.adr_update.specs.Key.{key_of};
 ghost use Rattle.adr_model.specs.Naming.{cursors_name, key_names, marks_name, rows_name};
 
 use crate::contents::Contents;
-use adr_change::Kept;
+use adr_change::PartnerMark;
 use adr_guid::Guid;
 use adr_update::{Held, Key, is_same};
 use adr_vector::Vector;
@@ -43,7 +43,7 @@ fn rows_name(rows: &[Held], inv: Guid) -> bool
 }
 
 /// Whether a mark is of the incarnation with the identifier.
-fn marks_name(marks: &[(Guid, Kept)], inv: Guid) -> bool
+fn marks_name(marks: &[(Guid, PartnerMark)], inv: Guid) -> bool
     ensures { result ≡ marks_name marks.now inv }
 {
     marks.iter().any(|mark| is_same(mark.1.inv(), inv))

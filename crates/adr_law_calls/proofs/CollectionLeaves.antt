@@ -29,7 +29,7 @@ use Rattle.adr_law_calls.proofs.CollectionFormed.{collectable, covered, higher, 
 use Rattle.adr_law_calls.proofs.Shrinking.{removal_grows, removed_is_dead}
 use Rattle.adr_law_calls.proofs.CollectionFollows.{collect_is_collection, collection_follows}
 
-module _ (sc : Book) (s : State) (now lifetime : ℕ) (book : IsSoundBook sc) (state : IsSoundState sc s) where
+module _ (book : Book) (s : State) (now lifetime : ℕ) (sound_book : IsSoundBook book) (state : IsSoundState book s) where
   open (collecting s now lifetime) use {dead, c, d, rows, os}
 
   abbrev V : Numbers
@@ -58,16 +58,16 @@ module _ (sc : Book) (s : State) (now lifetime : ℕ) (book : IsSoundBook sc) (s
   q_covers : Each (λ t. CoversBirth Q t.0 × Covers Q t.1) dead
   q_covers = covers s now lifetime state.formed
 
-  grows : Grows sc.issued (knowledge_of s.store) (knowledge_of d.store)
-  grows = removal_grows sc.issued rows V W P Q dead state.store.known gone up q_up q_covers
+  grows : Grows book.issued (knowledge_of s.store) (knowledge_of d.store)
+  grows = removal_grows book.issued rows V W P Q dead state.store.known gone up q_up q_covers
 
-  keeps : Keeps sc.issued (knowledge_of s.store) (knowledge_of d.store)
-  keeps = grows_keeps sc.issued (knowledge_of s.store) (knowledge_of d.store) grows
+  keeps : Keeps book.issued (knowledge_of s.store) (knowledge_of d.store)
+  keeps = grows_keeps book.issued (knowledge_of s.store) (knowledge_of d.store) grows
 
   -- ---- closed
 
   is_dead : (o : Oid) → Member o os → IsTombstoned (updates_of rows) o
-  is_dead = removed_is_dead sc.issued rows V W P Q dead state.store.known gone up q_up q_covers
+  is_dead = removed_is_dead book.issued rows V W P Q dead state.store.known gone up q_up q_covers
 
   not_dead : (l : LinkKey) → IsLinkFormed (numbered s.store.schema) (updates_of rows) l → (o : Oid) → Member o (ends (LinkOf l)) → IsTombstoned (updates_of rows) o → ⊥
   not_dead l f o (inl e) t = f.from (subst (IsTombstoned (updates_of rows)) e t)
@@ -80,31 +80,31 @@ module _ (sc : Book) (s : State) (now lifetime : ℕ) (book : IsSoundBook sc) (s
   closed : IsClosed d.store
   closed l r m is o n = ⊎_elim
       (λ h. inl (stays_held o (not_dead l (state.store.formed.rows.links l r (before) is) o n) h))
-      (λ unborn. inr (λ born. unborn (born_before sc s c.usn book state r (state.store.known r before) o (subst (λ k. Member o (ends k)) (sym is) n) born)))
+      (λ unborn. inr (λ born. unborn (born_before book s c.usn sound_book state r (state.store.known r before) o (subst (λ k. Member o (ends k)) (sym is) n) born)))
       (state.store.closed l r before is o n)
     where
       before : Member r (updates_of rows)
       before = update_stood os rows r m
 
-  leaves : Leaves sc s (record { call = ToCollect now lifetime; change = c })
+  leaves : Leaves book s (record { call = ToCollect now lifetime; change = c })
   leaves = record {
     keeps = keeps;
-    known = λ u m. member_left sc.issued [] u (state.store.known u (update_stood os rows u m));
+    known = λ u m. member_left book.issued [] u (state.store.known u (update_stood os rows u m));
     issued = λ u m. absurd m;
     joined = empty_is_formed.vector;
     bounded = λ i. omega arith;
-    carried = λ u m le. absurd (omega (arith, le, (book.once u m).0));
+    carried = λ u m le. absurd (omega (arith, le, (sound_book.once u m).0));
     formed = (collection_formed s now lifetime state.formed).store;
     closed = closed;
     classes = classes_stay_known os rows (numbered s.store.schema) state.store.classes;
     mark = tt;
   }
 
-  follows_and_leaves : Follows (last_of sc s.inv) c × Leaves sc s (record { call = ToCollect now lifetime; change = c })
-  follows_and_leaves = (collection_follows (last_of sc s.inv) s dead state.last, leaves)
+  follows_and_leaves : Follows (last_of book s.inv) c × Leaves book s (record { call = ToCollect now lifetime; change = c })
+  follows_and_leaves = (collection_follows (last_of book s.inv) s dead state.last, leaves)
 
-pub collection_leaves : (sc : Book) (s : State) (now lifetime : ℕ) (change : Change) → IsSoundBook sc → IsSoundState sc s → collect s now lifetime ≡ Ok change
-    → Follows (last_of sc s.inv) change × Leaves sc s (record { call = ToCollect now lifetime; change = change })
-collection_leaves sc s now lifetime change book state e =
-    subst (λ (x : Change). Follows (last_of sc s.inv) x × Leaves sc s (record { call = ToCollect now lifetime; change = x })) (collect_is_collection s now lifetime change e)
-    (follows_and_leaves sc s now lifetime book state)
+pub collection_leaves : (book : Book) (s : State) (now lifetime : ℕ) (change : Change) → IsSoundBook book → IsSoundState book s → collect s now lifetime ≡ Ok change
+    → Follows (last_of book s.inv) change × Leaves book s (record { call = ToCollect now lifetime; change = change })
+collection_leaves book s now lifetime change sound_book state e =
+    subst (λ (x : Change). Follows (last_of book s.inv) x × Leaves book s (record { call = ToCollect now lifetime; change = x })) (collect_is_collection s now lifetime change e)
+    (follows_and_leaves book s now lifetime sound_book state)

@@ -14,7 +14,7 @@ use Rattle.adr_model.specs.Update.{Identifier, same_identifier}
 use Rattle.adr_model.specs.Member.{Each}
 use Rattle.adr_model.specs.Place.{identifier}
 use Rattle.adr_model.specs.Reflects.{knowledge_of, Knowledge}
-use Rattle.adr_model.specs.Store.{Kept, State, no_mark, mark_of}
+use Rattle.adr_model.specs.Store.{PartnerMark, State, no_mark, mark_of}
 use Rattle.adr_model.specs.Serve.{Reply}
 use Rattle.adr_model.specs.Take.{same_mark, kept_mark}
 use Rattle.adr_model.specs.Replica.{Book, log_of}
@@ -27,34 +27,34 @@ use Rattle.adr_law_calls.specs.OnTheWay.{IsSoundBase, IsTakeable}
 
 -- ---- the kept mark
 
-module _ (sc : Book) (k : Knowledge) (book : IsSoundBook sc) where
-  no_mark_is_sound : (inv : Identifier) → IsSoundMark sc k inv no_mark
+module _ (book : Book) (k : Knowledge) (sound_book : IsSoundBook book) where
+  no_mark_is_sound : (inv : Identifier) → IsSoundMark book k inv no_mark
   no_mark_is_sound inv = record {
     ordered = record { prop = omega arith; obj = omega arith };
     seen = omega arith;
-    cut = nothing_at_0_is_split (log_of sc inv) (book.kept inv);
-    watermark = no_mark_holds sc.issued k (log_of sc inv) (book.kept inv);
+    boundary = nothing_at_0_is_split (log_of book inv) (sound_book.kept inv);
+    watermark = no_mark_holds book.issued k (log_of book inv) (sound_book.kept inv);
   }
 
   -- a mark as far as it speaks of an incarnation
-  mark_is_sound : (p : Kept) → IsSoundMark sc k p.inv p.mark → (inv : Identifier) → IsSoundMark sc k inv (mark_of p inv)
+  mark_is_sound : (p : PartnerMark) → IsSoundMark book k p.inv p.mark → (inv : Identifier) → IsSoundMark book k inv (mark_of p inv)
   mark_is_sound p sound inv = by (same_identifier p.inv inv) refl
     where
-      by : (b : Bool) → same_identifier p.inv inv ≡ b → IsSoundMark sc k inv (cond b p.mark no_mark)
-      by true is = subst (λ i. IsSoundMark sc k i p.mark) (same_from_test p.inv inv is) sound
+      by : (b : Bool) → same_identifier p.inv inv ≡ b → IsSoundMark book k inv (cond b p.mark no_mark)
+      by true is = subst (λ i. IsSoundMark book k i p.mark) (same_from_test p.inv inv is) sound
       by false is = no_mark_is_sound inv
 
-pub kept_is_true : (sc : Book) (s : State) (r : Reply) → IsSoundBook sc → Each (λ (k : Identifier × Kept). IsSoundMark sc (knowledge_of s.store) k.1.inv k.1.mark) s.store.marks
-    → IsSoundMark sc (knowledge_of s.store) r.inv (kept_mark s r)
-kept_is_true sc s r book marks = each_found (λ (p : Kept). IsSoundMark sc (knowledge_of s.store) r.inv (mark_of p r.inv)) (is_at (identifier_order r.source)) s.store.marks none
-    (mark_is_sound sc (knowledge_of s.store) book none (no_mark_is_sound sc (knowledge_of s.store) book (identifier 0)) r.inv)
-    (λ p m. mark_is_sound sc (knowledge_of s.store) book p.1 (marks p m) r.inv)
+pub kept_is_true : (book : Book) (s : State) (r : Reply) → IsSoundBook book → Each (λ (k : Identifier × PartnerMark). IsSoundMark book (knowledge_of s.store) k.1.inv k.1.mark) s.store.marks
+    → IsSoundMark book (knowledge_of s.store) r.inv (kept_mark s r)
+kept_is_true book s r sound_book marks = each_found (λ (p : PartnerMark). IsSoundMark book (knowledge_of s.store) r.inv (mark_of p r.inv)) (is_at (identifier_order r.source)) s.store.marks none
+    (mark_is_sound book (knowledge_of s.store) sound_book none (no_mark_is_sound book (knowledge_of s.store) sound_book (identifier 0)) r.inv)
+    (λ p m. mark_is_sound book (knowledge_of s.store) sound_book p.1 (marks p m) r.inv)
   where
-    none : Kept
+    none : PartnerMark
     none = record { inv = identifier 0; mark = no_mark }
 
-pub kept_is_sound : (sc : Book) (s : State) (r : Reply) → IsSoundBook sc → IsSoundState sc s → IsSoundMark sc (knowledge_of s.store) r.inv (kept_mark s r)
-kept_is_sound sc s r book state = kept_is_true sc s r book state.store.marks
+pub kept_is_sound : (book : Book) (s : State) (r : Reply) → IsSoundBook book → IsSoundState book s → IsSoundMark book (knowledge_of s.store) r.inv (kept_mark s r)
+kept_is_sound book s r sound_book state = kept_is_true book s r sound_book state.store.marks
 
 -- ---- refusals that are none
 
@@ -68,8 +68,8 @@ same_marks m n h =
     one p q e = λ i. record { obj = p i; prop = q i; seen = e i }
 
 -- a controller's rows and vectors may take a reply
-pub base_of : (sc : Book) (s : State) → IsSoundState sc s → IsSoundBase sc s.store
-base_of sc s state = record {
+pub base_of : (book : Book) (s : State) → IsSoundState book s → IsSoundBase book s.store
+base_of book s state = record {
   known = state.store.known;
   covered = state.store.covered;
   purged_within = everywhere_from_at_most s.store.purged s.store.vector state.formed.store.purged_within;
@@ -81,24 +81,24 @@ base_of sc s state = record {
   classes = state.store.classes;
 }
 
-pub passing : (sc : Book) (s : State) (r : Reply) → IsSoundBook sc → IsSoundBase sc s.store
-    → Each (λ (k : Identifier × Kept). IsSoundMark sc (knowledge_of s.store) k.1.inv k.1.mark) s.store.marks → IsSoundReply sc r
+pub passing : (book : Book) (s : State) (r : Reply) → IsSoundBook book → IsSoundBase book s.store
+    → Each (λ (k : Identifier × PartnerMark). IsSoundMark book (knowledge_of s.store) k.1.inv k.1.mark) s.store.marks → IsSoundReply book r
     → then_some (not (same_mark r.from (kept_mark s r))) (Stale (kept_mark s r) r.from) ≡ None
     → option_map (λ (gap : List ℕ × ℕ × ℕ). VectorBehind gap.0 gap.1 gap.2) (first_gap r.asked s.store.vector) ≡ None
     → then_some (not (r.schema == s.store.schema)) (SchemaMismatch s.store.schema r.schema) ≡ None
-    → IsTakeable sc s r
-passing sc s r book base marks reply stale gap schema = record {
-  book = book;
+    → IsTakeable book s r
+passing book s r sound_book base marks reply stale gap schema = record {
+  book = sound_book;
   base = base;
   reply = reply;
-  mark = subst (IsSoundMark sc (knowledge_of s.store) r.inv) (sym (same_marks r.from (kept_mark s r) (is_so (same_mark r.from (kept_mark s r)) (Stale (kept_mark s r) r.from) stale))) (kept_is_true sc s r book marks);
+  mark = subst (IsSoundMark book (knowledge_of s.store) r.inv) (sym (same_marks r.from (kept_mark s r) (is_so (same_mark r.from (kept_mark s r)) (Stale (kept_mark s r) r.from) stale))) (kept_is_true book s r sound_book marks);
   asked = everywhere_from_at_most r.asked s.store.vector (no_gap (λ (g : List ℕ × ℕ × ℕ). VectorBehind g.0 g.1 g.2) r.asked s.store.vector gap);
   schema = eqb-true r.schema s.store.schema (is_so (r.schema == s.store.schema) (SchemaMismatch s.store.schema r.schema) schema);
 }
 
-pub takeable : (sc : Book) (s : State) (r : Reply) → IsSoundBook sc → IsSoundState sc s → IsSoundReply sc r
+pub takeable : (book : Book) (s : State) (r : Reply) → IsSoundBook book → IsSoundState book s → IsSoundReply book r
     → then_some (not (same_mark r.from (kept_mark s r))) (Stale (kept_mark s r) r.from) ≡ None
     → option_map (λ (gap : List ℕ × ℕ × ℕ). VectorBehind gap.0 gap.1 gap.2) (first_gap r.asked s.store.vector) ≡ None
     → then_some (not (r.schema == s.store.schema)) (SchemaMismatch s.store.schema r.schema) ≡ None
-    → IsTakeable sc s r
-takeable sc s r book state reply = passing sc s r book (base_of sc s state) state.store.marks reply
+    → IsTakeable book s r
+takeable book s r sound_book state reply = passing book s r sound_book (base_of book s state) state.store.marks reply

@@ -26,29 +26,29 @@ use Rattle.adr_law_calls.proofs.OnTheWay.{purged_is_covered, new_is_lacked}
 use Rattle.adr_law_calls.proofs.ItemRows.{item_units, row_key, row_of_attr}
 use Rattle.adr_law_calls.proofs.ItemPut.{taken_from}
 
-module _ (sc : Book) (s : State) (r : Reply) (may : IsTakeable sc s r) (rows : List Held) (way : AreOnTheWay sc s rows) where
+module _ (book : Book) (s : State) (r : Reply) (may : IsTakeable book s r) (rows : List Held) (way : AreOnTheWay book s rows) where
   -- what is at least held isn't above
   low : (u : Update) → HoldsAtLeast (updates_of rows) u → is_above rows u ≡ false
   low u h = at_least_is_not_above rows u (one_of_key rows way.rising) h
 
-  module _ (o : Oid) (xs : List Update) (exact : IsExact (source_rows sc r) r (record { unit = Object o; rows = xs })) (u : Update) (m : Member u xs)
-      (taken : Reflects sc.issued (known_with s rows) u) (missed : Covers (at s.store.vector) u → ⊥) where
+  module _ (o : Oid) (xs : List Update) (exact : IsExact (source_rows book r) r (record { unit = Object o; rows = xs })) (u : Update) (m : Member u xs)
+      (taken : Reflects book.issued (known_with s rows) u) (missed : Covers (at s.store.vector) u → ⊥) where
     abbrev item : Item
     item = record { unit = Object o; rows = xs }
 
     -- the end that is buried is the object
-    buried : (p : Oid) → Member p (ends u.key) → Buried sc.issued (known_with s rows) u p → Buried sc.issued (known_with s rows) u o
-    buried p e b = let k = row_key sc s r may item exact rows way o refl u m in subst (Buried sc.issued (known_with s rows) u) (end_of_row u o k.0 p k.1 e) b
+    buried : (p : Oid) → Member p (ends u.key) → Buried book.issued (known_with s rows) u p → Buried book.issued (known_with s rows) u o
+    buried p e b = let k = row_key book s r may item exact rows way o refl u m in subst (Buried book.issued (known_with s rows) u) (end_of_row u o k.0 p k.1 e) b
 
     -- where the object is held, a row that is above is a death's of a dead object
     below : HoldsObject (updates_of rows) o → (IsTombstoned (updates_of rows) o → (IsDeath u → Covers (at s.store.vector) u) → is_above rows u ≡ false) → is_above rows u ≡ false
     below holds where_dead = by taken
       where
-        by : Reflects sc.issued (known_with s rows) u → is_above rows u ≡ false
+        by : Reflects book.issued (known_with s rows) u → is_above rows u ≡ false
         by (inl h) = low u h
         by (inr (p, e, b)) = on (buried p e b)
           where
-            on : Buried sc.issued (known_with s rows) u o → is_above rows u ≡ false
+            on : Buried book.issued (known_with s rows) u o → is_above rows u ≡ false
             on (inl (tombstone, covers)) = where_dead tombstone covers
             on (inr purged) = absurd (purged.absent holds)
 
@@ -56,7 +56,7 @@ module _ (sc : Book) (s : State) (r : Reply) (may : IsTakeable sc s r) (rows : L
     where_dead (d, n, is) w =
         let t = of_filter (λ (v : Update). is_of_attr deleted_attr v.key && is_above rows v) xs u w in
         let both = and_parts (is_of_attr deleted_attr u.key) (is_above rows u) t.1 in
-        both_ways (is_above rows u) (below (d, deleted_attr, n, is) (λ tombstone covers. absurd (missed (covers (o, row_of_attr sc s r may item exact rows way o refl deleted_attr u m both.0))))) both.1
+        both_ways (is_above rows u) (below (d, deleted_attr, n, is) (λ tombstone covers. absurd (missed (covers (o, row_of_attr book s r may item exact rows way o refl deleted_attr u m both.0))))) both.1
 
     where_held : (IsTombstoned (updates_of rows) o → ⊥) → HoldsObject (updates_of rows) o → Member u (object_rows_taken rows xs IsHeld) → ⊥
     where_held alive holds w =
@@ -64,12 +64,12 @@ module _ (sc : Book) (s : State) (r : Reply) (may : IsTakeable sc s r) (rows : L
         both_ways (is_above rows u) (below holds (λ tombstone covers. absurd (alive tombstone))) (and_parts (not (is_of_attr class_attr u.key)) (is_above rows u) t.1).1
 
     where_new : (HoldsObject (updates_of rows) o → ⊥) → (CoversBirth (at s.store.vector) o → ⊥) → Member u (left_by_death xs) → ⊥
-    where_new absent unseen w = let k = row_key sc s r may item exact rows way o refl u m in new_is_lacked sc s r may rows way o absent unseen u k.0 k.1 taken
+    where_new absent unseen w = let k = row_key book s r may item exact rows way o refl u m in new_is_lacked book s r may rows way o absent unseen u k.0 k.1 taken
 
     object_lacked : Member u (rows_taken s.store.vector rows item) → ⊥
     object_lacked = each_presence s.store.vector rows o (λ (p : Presence). Member u (object_rows_taken rows xs p) → ⊥) where_dead where_held (λ absent covers w. absurd w) where_new
 
-  module _ (l : LinkKey) (xs : List Update) (exact : IsExact (source_rows sc r) r (record { unit = Link l; rows = xs })) (u : Update) (m : Member u xs) (taken : Reflects sc.issued (known_with s rows) u) where
+  module _ (l : LinkKey) (xs : List Update) (exact : IsExact (source_rows book r) r (record { unit = Link l; rows = xs })) (u : Update) (m : Member u xs) (taken : Reflects book.issued (known_with s rows) u) where
     abbrev link : Item
     link = record { unit = Link l; rows = xs }
 
@@ -81,14 +81,14 @@ module _ (sc : Book) (s : State) (r : Reply) (may : IsTakeable sc s r) (rows : L
         each_end o (inr (inl e)) = subst (IsThere s.store.vector rows) (sym e) to
         each_end o (inr (inr n)) = absurd n
 
-        not_buried : (o : Oid) → IsThere s.store.vector rows o → Buried sc.issued (known_with s rows) u o → ⊥
+        not_buried : (o : Oid) → IsThere s.store.vector rows o → Buried book.issued (known_with s rows) u o → ⊥
         not_buried o there (inl (tombstone, covers)) = there.0 tombstone
         not_buried o (alive, inl holds) (inr purged) = purged.absent holds
-        not_buried o (alive, inr unseen) (inr purged) = unseen (purged_is_covered sc s r may rows way o purged)
+        not_buried o (alive, inr unseen) (inr purged) = unseen (purged_is_covered book s r may rows way o purged)
 
-        by : Reflects sc.issued (known_with s rows) u → is_above rows u ≡ false
+        by : Reflects book.issued (known_with s rows) u → is_above rows u ≡ false
         by (inl h) = low u h
-        by (inr (o, e, b)) = absurd (not_buried o (each_end o (subst (λ k. Member o (ends k)) (link_of_unit u.key l (item_units sc s r may link exact u m)) e)) b)
+        by (inr (o, e, b)) = absurd (not_buried o (each_end o (subst (λ k. Member o (ends k)) (link_of_unit u.key l (item_units book s r may link exact u m)) e)) b)
 
     link_lacked : Member u (rows_taken s.store.vector rows link) → ⊥
     link_lacked = by (is_lost_end s.store.vector rows l.from) refl (is_lost_end s.store.vector rows l.to) refl
@@ -99,7 +99,7 @@ module _ (sc : Book) (s : State) (r : Reply) (may : IsTakeable sc s r) (rows : L
         by false is false to w = where_there (there_where_untested s.store.vector rows l.from is) (there_where_untested s.store.vector rows l.to to) w
 
   -- a row that is written was not reflected, where it isn't covered
-  pub item_lacked : (unit : Named) (xs : List Update) → IsExact (source_rows sc r) r (record { unit = unit; rows = xs })
-      → Each (λ u. (Covers (at s.store.vector) u → ⊥) → Reflects sc.issued (known_with s rows) u → ⊥) (rows_taken s.store.vector rows (record { unit = unit; rows = xs }))
+  pub item_lacked : (unit : Named) (xs : List Update) → IsExact (source_rows book r) r (record { unit = unit; rows = xs })
+      → Each (λ u. (Covers (at s.store.vector) u → ⊥) → Reflects book.issued (known_with s rows) u → ⊥) (rows_taken s.store.vector rows (record { unit = unit; rows = xs }))
   item_lacked (Object o) xs exact u w missed taken = object_lacked o xs exact u (taken_from s.store.vector rows (Object o) xs u w) taken missed w
   item_lacked (Link l) xs exact u w missed taken = link_lacked l xs exact u (taken_from s.store.vector rows (Link l) xs u w) taken w

@@ -24,17 +24,17 @@ use Rattle.adr_law_calls.proofs.Standings.{of_attr}
 use Rattle.adr_law_calls.proofs.Source.{well_said}
 use Rattle.adr_law_calls.proofs.OnTheWay.{one_birth, source_one, source_formed, source_classes, source_issued}
 
-module _ (sc : Book) (s : State) (r : Reply) (may : IsTakeable sc s r) (i : Item) (exact : IsExact (source_rows sc r) r i) where
-  pub in_source : Each (λ u. Member u (updates_of (source_rows sc r))) i.rows
-  in_source u m = let h = exact.from u m in subst (λ v. Member v (updates_of (source_rows sc r))) h.2 (updated (source_rows sc r) h.0 h.1)
+module _ (book : Book) (s : State) (r : Reply) (may : IsTakeable book s r) (i : Item) (exact : IsExact (source_rows book r) r i) where
+  pub in_source : Each (λ u. Member u (updates_of (source_rows book r))) i.rows
+  in_source u m = let h = exact.from u m in subst (λ v. Member v (updates_of (source_rows book r))) h.2 (updated (source_rows book r) h.0 h.1)
 
   pub item_units : Each (λ u. unit_of u.key ≡ i.unit) i.rows
   item_units u m = (exact.from u m).3
 
   pub item_one : Each (λ u. Each (λ v. u.key ≡ v.key → u ≡ v) i.rows) i.rows
-  item_one u m v n e = source_one sc s r may u (in_source u m) v (in_source v n) e
+  item_one u m v n e = source_one book s r may u (in_source u m) v (in_source v n) e
 
-  module _ (rows : List Held) (way : AreOnTheWay sc s rows) where
+  module _ (rows : List Held) (way : AreOnTheWay book s rows) where
     -- rows of an item that are above what is held may be put
     pub may_put : (us : List Update) → Each (λ u. Member u i.rows) us → Each (λ u. Each (λ v. v.key ≡ u.key → Supersedes u v) (updates_of rows)) us
         → Each (λ d. IsDeath d → Each (λ u. is_reserved_row u.key ≡ true) us) us
@@ -58,34 +58,34 @@ module _ (sc : Book) (s : State) (r : Reply) (may : IsTakeable sc s r) (i : Item
           same_attr : (p : Oid) (a : ℕ) → RowOf o a ≡ RowOf p attr → a ≡ attr
           same_attr p a e = cc
 
-      pub source_holds : (u : Update) → Member u i.rows → HoldsObject (updates_of (source_rows sc r)) o
+      pub source_holds : (u : Update) → Member u i.rows → HoldsObject (updates_of (source_rows book r)) o
       source_holds u m = let k = row_key u m in (u, k.0, in_source u m, k.1)
 
       -- the object's class is the same here and there
-      one_class : (here : IsNamed (updates_of rows) o) (there : IsNamed (updates_of (source_rows sc r)) o) → here.class ≡ there.class
+      one_class : (here : IsNamed (updates_of rows) o) (there : IsNamed (updates_of (source_rows book r)) o) → here.class ≡ there.class
       one_class here there = same_class here.class there.class (sym here.of_class.3 ∙ (ap (λ (b : Update). b.said) same ∙ there.of_class.3))
         where
           same_class : (c d : ℕ) → Holds (Class c) ≡ Holds (Class d) → c ≡ d
           same_class c d e = cc
 
           same : here.of_class.0 ≡ there.of_class.0
-          same = one_birth sc may.book o here.of_class.0 there.of_class.0 (way.known here.of_class.0 here.of_class.1) (source_issued sc s r may there.of_class.0 there.of_class.1) here.of_class.2 there.of_class.2
+          same = one_birth book may.book o here.of_class.0 there.of_class.0 (way.known here.of_class.0 here.of_class.1) (source_issued book s r may there.of_class.0 there.of_class.1) here.of_class.2 there.of_class.2
 
       pub same_birth : (holds : HoldsObject (updates_of rows) o) (u : Update) → Member u i.rows → u.key ≡ RowOf o class_attr → (way.formed.named o holds).of_class.0 ≡ u
       same_birth holds u m e =
           let here : IsNamed (updates_of rows) o = way.formed.named o holds in
-          one_birth sc may.book o here.of_class.0 u (way.known here.of_class.0 here.of_class.1) (source_issued sc s r may u (in_source u m)) here.of_class.2 e
+          one_birth book may.book o here.of_class.0 u (way.known here.of_class.0 here.of_class.1) (source_issued book s r may u (in_source u m)) here.of_class.2 e
 
       pub said_of_held : (holds : HoldsObject (updates_of rows) o) → Each (IsWellSaid (numbered s.store.schema) (way.formed.named o holds).class o) i.rows
       said_of_held holds u m =
           let there = source_holds u m in
-          subst (λ c. IsWellSaid (numbered s.store.schema) c o u) (sym (one_class (way.formed.named o holds) ((source_formed sc s r may).named o there)))
-          (well_said (numbered s.store.schema) (updates_of (source_rows sc r)) (source_one sc s r may) (source_formed sc s r may) o there u (in_source u m))
+          subst (λ c. IsWellSaid (numbered s.store.schema) c o u) (sym (one_class (way.formed.named o holds) ((source_formed book s r may).named o there)))
+          (well_said (numbered s.store.schema) (updates_of (source_rows book r)) (source_one book s r may) (source_formed book s r may) o there u (in_source u m))
 
       pub class_is_known : (holds : HoldsObject (updates_of rows) o) (u : Update) → Member u i.rows → IsSome (class_at (numbered s.store.schema) (way.formed.named o holds).class)
       class_is_known holds u m =
-          let there : IsNamed (updates_of (source_rows sc r)) o = (source_formed sc s r may).named o (source_holds u m) in
-          subst (λ c. IsSome (class_at (numbered s.store.schema) c)) (sym (one_class (way.formed.named o holds) there)) (source_classes sc s r may there.of_class.0 there.of_class.1 there.class there.of_class.3)
+          let there : IsNamed (updates_of (source_rows book r)) o = (source_formed book s r may).named o (source_holds u m) in
+          subst (λ c. IsSome (class_at (numbered s.store.schema) c)) (sym (one_class (way.formed.named o holds) there)) (source_classes book s r may there.of_class.0 there.of_class.1 there.class there.of_class.3)
 
       pub may_change : (holds : HoldsObject (updates_of rows) o) (us : List Update) → Each (λ u. Member u i.rows) us → (IsTombstoned (updates_of rows) o → Each (λ u. is_reserved_row u.key ≡ true) us)
           → MayChange (numbered s.store.schema) (updates_of rows) o (way.formed.named o holds).class us

@@ -35,8 +35,8 @@ pub put_of_item : (usn : ℕ) (i : Item) (us : List Update) (rows : List Held) �
 put_of_item usn i [] rows = refl
 put_of_item usn i (u ∷ us) rows = ap (λ hs. fold put rows hs) (held_where_written (usn + 1) i.unit (u ∷ us))
 
-module _ (sc : Book) (s : State) (r : Reply) (may : IsTakeable sc s r) (rows : List Held) (way : AreOnTheWay sc s rows) (usn : ℕ) (unit : Named) (us : List Update)
-    (issued : Each (λ u. Member u sc.issued) us)
+module _ (book : Book) (s : State) (r : Reply) (may : IsTakeable book s r) (rows : List Held) (way : AreOnTheWay book s rows) (usn : ℕ) (unit : Named) (us : List Update)
+    (issued : Each (λ u. Member u book.issued) us)
     (puts : MayPut (updates_of rows) (at s.store.vector) unit us) (keeps : KeepForms (numbered s.store.schema) (at s.store.vector) (updates_of rows) unit us) where
   abbrev next : List Held
   next = fold put rows (under usn us)
@@ -44,17 +44,17 @@ module _ (sc : Book) (s : State) (r : Reply) (may : IsTakeable sc s r) (rows : L
   are : ArePut usn us rows next
   are = are_put usn rows (at s.store.vector) unit us puts
 
-  known : Each (λ u. Member u sc.issued) (updates_of next)
+  known : Each (λ u. Member u book.issued) (updates_of next)
   known u m = ⊎_elim (λ n. issued u n) (λ old. way.known u old) (whence_update usn us rows next are u m)
 
-  pub grows_by_puts : Grows sc.issued (known_with s rows) (known_with s next)
-  grows_by_puts = puts_grow sc.issued usn rows next (at s.store.vector) (at s.store.purged) unit us puts are (purged_within sc s r may)
+  pub grows_by_puts : Grows book.issued (known_with s rows) (known_with s next)
+  grows_by_puts = puts_grow book.issued usn rows next (at s.store.vector) (at s.store.purged) unit us puts are (purged_within book s r may)
 
-  pub rows_step : AreOnTheWay sc s next
+  pub rows_step : AreOnTheWay book s next
   rows_step = record {
     rising = puts_rise rows (under usn us) way.rising;
     known = known;
-    grows = grows_trans sc.issued _ (known_with s rows) (known_with s next) way.grows grows_by_puts;
+    grows = grows_trans book.issued _ (known_with s rows) (known_with s next) way.grows grows_by_puts;
     formed = rows_stay_formed usn us rows next are s.store.schema (at s.store.vector) unit way.rising (puts_rise rows (under usn us) way.rising) way.formed puts keeps;
     closed = rows_stay_closed usn us rows next are s.store.schema (at s.store.vector) unit way.closed puts keeps;
   }
@@ -124,9 +124,9 @@ module _ (s : State) (t : Taking) (way : StaysFormed s t) (i : Item) (refusal : 
 
 -- ---- of a sound reply
 
-module _ (sc : Book) (s : State) (r : Reply) (may : IsTakeable sc s r) (t : Taking) (way : IsTakenSoFar sc s r t) (i : Item) (refusal : Option TakeRefusal) (place objects links : ℕ) where
+module _ (book : Book) (s : State) (r : Reply) (may : IsTakeable book s r) (t : Taking) (way : IsTakenSoFar book s r t) (i : Item) (refusal : Option TakeRefusal) (place objects links : ℕ) where
   -- nothing is written
-  idle : IsTakenSoFar sc s r (goes_on t i [] refusal place objects links)
+  idle : IsTakenSoFar book s r (goes_on t i [] refusal place objects links)
   idle = record {
     steady = steady_step s t way.steady i refusal place objects links [] (inl refl);
     rows = way.rows;
@@ -154,10 +154,10 @@ module _ (sc : Book) (s : State) (r : Reply) (may : IsTakeable sc s r) (t : Taki
         by (inl old) = inr old
         by (inr new) = inl (under_usn (t.usn + 1) (u ∷ us) h (subst (Member h) (held_where_written (t.usn + 1) i.unit (u ∷ us)) new))
 
-    written : IsTakenSoFar sc s r behind
+    written : IsTakenSoFar book s r behind
     written = record {
       steady = steady_step s t way.steady i refusal place objects links (u ∷ us) (inr (puts, keeps));
-      rows = subst (AreOnTheWay sc s) (sym same) (rows_step sc s r may t.rows way.rows (t.usn + 1) i.unit (u ∷ us) (λ v m. may.reply.known v (of_item v m)) puts keeps);
+      rows = subst (AreOnTheWay book s) (sym same) (rows_step book s r may t.rows way.rows (t.usn + 1) i.unit (u ∷ us) (λ v m. may.reply.known v (of_item v m)) puts keeps);
       sent = λ h m. ⊎_elim (λ new. of_item h.update new.0) (λ old. way.sent h old) (new_or_old h m);
       above = λ h m. ⊎_elim (λ new. omega (arith, new.1, way.steady.rises)) (λ old. way.above h old) (new_or_old h m);
       within = λ h m. ⊎_elim (λ new. omega (arith, new.1)) (λ old. omega (arith, way.within h old)) (new_or_old h m);
@@ -166,19 +166,19 @@ module _ (sc : Book) (s : State) (r : Reply) (may : IsTakeable sc s r) (t : Taki
 
   pub step : (us : List Update) → Each (λ v. IsSent r v) us
       → (us ≡ []) ⊎ (MayPut (updates_of t.rows) (at s.store.vector) i.unit us × KeepForms (numbered s.store.schema) (at s.store.vector) (updates_of t.rows) i.unit us)
-      → IsTakenSoFar sc s r (goes_on t i us refusal place objects links)
+      → IsTakenSoFar book s r (goes_on t i us refusal place objects links)
   step [] of_item e = idle
   step (u ∷ us) of_item (inl e) = absurd (let f : u ∷ us ≡ [] = e in cc)
   step (u ∷ us) of_item (inr (puts, keeps)) = written u us of_item puts keeps
 
   pub step_grows : (us : List Update) → Each (λ v. IsSent r v) us
       → (us ≡ []) ⊎ (MayPut (updates_of t.rows) (at s.store.vector) i.unit us × KeepForms (numbered s.store.schema) (at s.store.vector) (updates_of t.rows) i.unit us)
-      → Grows sc.issued (known_with s t.rows) (known_with s (goes_on t i us refusal place objects links).rows)
-  step_grows [] of_item e = grows_self sc.issued (known_with s t.rows)
+      → Grows book.issued (known_with s t.rows) (known_with s (goes_on t i us refusal place objects links).rows)
+  step_grows [] of_item e = grows_self book.issued (known_with s t.rows)
   step_grows (u ∷ us) of_item (inl e) = absurd (let f : u ∷ us ≡ [] = e in cc)
   step_grows (u ∷ us) of_item (inr (puts, keeps)) =
-      subst (λ rows. Grows sc.issued (known_with s t.rows) (known_with s rows)) (sym (put_of_item t.usn i (u ∷ us) t.rows))
-      (grows_by_puts sc s r may t.rows way.rows (t.usn + 1) i.unit (u ∷ us) (λ v m. may.reply.known v (of_item v m)) puts keeps)
+      subst (λ rows. Grows book.issued (known_with s t.rows) (known_with s rows)) (sym (put_of_item t.usn i (u ∷ us) t.rows))
+      (grows_by_puts book s r may t.rows way.rows (t.usn + 1) i.unit (u ∷ us) (λ v m. may.reply.known v (of_item v m)) puts keeps)
 
   pub step_writes : (us : List Update)
       → (us ≡ []) ⊎ (MayPut (updates_of t.rows) (at s.store.vector) i.unit us × KeepForms (numbered s.store.schema) (at s.store.vector) (updates_of t.rows) i.unit us)

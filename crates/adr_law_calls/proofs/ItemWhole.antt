@@ -63,8 +63,8 @@ module _ (schema : ℕ) (before : List Update) (o : Oid) (class : ℕ) (xs : Lis
       by true e false f d dead = absurd (both_ways false refl f)
       by false e n f d dead = absurd (both_ways false refl e)
 
-module _ (sc : Book) (s : State) (r : Reply) (may : IsTakeable sc s r) (rows : List Held) (way : AreOnTheWay sc s rows) where
-  module _ (o : Oid) (xs : List Update) (exact : IsExact (source_rows sc r) r (record { unit = Object o; rows = xs })) where
+module _ (book : Book) (s : State) (r : Reply) (may : IsTakeable book s r) (rows : List Held) (way : AreOnTheWay book s rows) where
+  module _ (o : Oid) (xs : List Update) (exact : IsExact (source_rows book r) r (record { unit = Object o; rows = xs })) where
     abbrev item : Item
     item = record { unit = Object o; rows = xs }
 
@@ -77,7 +77,7 @@ module _ (sc : Book) (s : State) (r : Reply) (may : IsTakeable sc s r) (rows : L
     keep_to class is us among well = none_first (row_fault (numbered s.store.schema) (class_of_item rows item)) us sound
       where
         sound : Each (λ u. row_fault (numbered s.store.schema) (class_of_item rows item) u ≡ None) us
-        sound u m = let k = row_key sc s r may item exact rows way o refl u (among u m) in
+        sound u m = let k = row_key book s r may item exact rows way o refl u (among u m) in
             subst (λ c. row_fault (numbered s.store.schema) c u ≡ None) (sym is) (row_passes (numbered s.store.schema) class (well u m).0 o u k.0 k.1 (well u m).1)
 
     held_class : (holds : HoldsObject (updates_of rows) o) → class_of_item rows item ≡ Some (way.formed.named o holds).class
@@ -94,14 +94,14 @@ module _ (sc : Book) (s : State) (r : Reply) (may : IsTakeable sc s r) (rows : L
         by (inr (none, f)) = let h = held_as rows here.of_class.0 here.of_class.1 in absurd (none h.0 h.1 (ap (λ (u : Update). u.key) (sym h.2) ∙ here.of_class.2))
 
     where_held : (IsTombstoned (updates_of rows) o → ⊥) → HoldsObject (updates_of rows) o → IsSound xs
-    where_held alive holds = keep_to (way.formed.named o holds).class (held_class holds) xs (λ u m. m) (λ u m. (class_is_known sc s r may item exact rows way o refl holds u m, said_of_held sc s r may item exact rows way o refl holds u m))
+    where_held alive holds = keep_to (way.formed.named o holds).class (held_class holds) xs (λ u m. m) (λ u m. (class_is_known book s r may item exact rows way o refl holds u m, said_of_held book s r may item exact rows way o refl holds u m))
 
     module _ (absent : HoldsObject (updates_of rows) o → ⊥) (missed : CoversBirth (at s.store.vector) o → ⊥) (first : Update) (there : Member first xs) where
       abbrev class : ℕ
-      class = (named sc s r may rows way o xs exact absent missed first there).class
+      class = (named book s r may rows way o xs exact absent missed first there).class
 
       come : MayCome (numbered s.store.schema) (updates_of rows) o class (left_by_death xs)
-      come = may_come sc s r may rows way o xs exact absent missed first there
+      come = may_come book s r may rows way o xs exact absent missed first there
 
       said_class : class_among xs ≡ Some class
       said_class =
@@ -109,7 +109,7 @@ module _ (sc : Book) (s : State) (r : Reply) (may : IsTakeable sc s r) (rows : L
           let n = left_from xs b.0 b.1 in
           ap (λ (p : Option Update). option_and_then (λ u. class_said u.said) p)
           (found (λ (u : Update). is_of_attr class_attr u.key) xs b.0 n (attr_itself o class_attr b.0.key b.2)
-          (λ u m is. item_one sc s r may item exact u m b.0 n (row_of_attr sc s r may item exact rows way o refl class_attr u m is ∙ sym b.2)))
+          (λ u m is. item_one book s r may item exact u m b.0 n (row_of_attr book s r may item exact rows way o refl class_attr u m is ∙ sym b.2)))
           ∙ class_of_said b.0.said class ((come.said b.0 b.1).of_class b.2).0
 
       new_class : class_of_item rows item ≡ Some class
@@ -139,7 +139,7 @@ module _ (sc : Book) (s : State) (r : Reply) (may : IsTakeable sc s r) (rows : L
     object_whole u m = each_presence s.store.vector rows o (λ (p : Presence). then_some (object_lacks (numbered s.store.schema) xs p) (Incomplete o) ≡ None)
         (λ tombstone. refl) (λ alive holds. refl) (λ absent covers. refl) (λ absent missed. new_is_whole absent missed u m)
 
-  module _ (l : LinkKey) (xs : List Update) (exact : IsExact (source_rows sc r) r (record { unit = Link l; rows = xs })) where
+  module _ (l : LinkKey) (xs : List Update) (exact : IsExact (source_rows book r) r (record { unit = Link l; rows = xs })) where
     abbrev link : Item
     link = record { unit = Link l; rows = xs }
 
@@ -148,19 +148,19 @@ module _ (sc : Book) (s : State) (r : Reply) (may : IsTakeable sc s r) (rows : L
       where
         sound : Each (λ u. row_fault (numbered s.store.schema) None u ≡ None) xs
         sound u m =
-            let key = link_of_unit u.key l (item_units sc s r may link exact u m) in
-            link_passes (numbered s.store.schema) l u key ((source_formed sc s r may).links l u (in_source sc s r may link exact u m) key).forward
+            let key = link_of_unit u.key l (item_units book s r may link exact u m) in
+            link_passes (numbered s.store.schema) l u key ((source_formed book s r may).links l u (in_source book s r may link exact u m) key).forward
 
         by : (b : Bool) → first_of (map (row_fault (numbered s.store.schema) None) (cond b [] xs)) ≡ None
         by true = refl
         by false = none_first (row_fault (numbered s.store.schema) None) xs sound
 
-  pub item_is_sound : (unit : Named) (xs : List Update) → IsExact (source_rows sc r) r (record { unit = unit; rows = xs }) → item_fault (numbered s.store.schema) s.store.vector rows (record { unit = unit; rows = xs }) ≡ None
+  pub item_is_sound : (unit : Named) (xs : List Update) → IsExact (source_rows book r) r (record { unit = unit; rows = xs }) → item_fault (numbered s.store.schema) s.store.vector rows (record { unit = unit; rows = xs }) ≡ None
   item_is_sound (Object o) xs exact = object_sound o xs exact
   item_is_sound (Link l) xs exact = link_sound l xs exact
 
   -- an item without a row, of an object that was never seen, is incomplete
-  pub item_is_whole : (unit : Named) (xs : List Update) → IsExact (source_rows sc r) r (record { unit = unit; rows = xs }) → (u : Update) → Member u xs
+  pub item_is_whole : (unit : Named) (xs : List Update) → IsExact (source_rows book r) r (record { unit = unit; rows = xs }) → (u : Update) → Member u xs
       → incomplete (numbered s.store.schema) s.store.vector rows (record { unit = unit; rows = xs }) ≡ None
   item_is_whole (Object o) xs exact u m = object_whole o xs exact u m
   item_is_whole (Link l) xs exact u m = refl

@@ -28,20 +28,20 @@ begins_steady s rising formed alone locals = record { rising = rising; formed = 
 pub begins_formed : (s : State) → IsFormed s → StaysFormed s (begin s)
 begins_formed s formed = begins_steady s formed.store.rising formed.store.rows formed.store.alone formed.store.locals
 
-module _ (sc : Book) (s : State) (r : Reply) (may : IsTakeable sc s r) where
+module _ (book : Book) (s : State) (r : Reply) (may : IsTakeable book s r) where
   abbrev taken : Taking → Item → Taking
   taken t i = take_item (numbered s.store.schema) s.store.vector t i
 
   abbrev all : Taking → List Item → Taking
   all t is = fold (take_item (numbered s.store.schema) s.store.vector) t is
 
-  pub starts : IsTakenSoFar sc s r (begin s)
+  pub starts : IsTakenSoFar book s r (begin s)
   starts = record {
     steady = begins_steady s may.base.rising may.base.rows may.base.alone may.base.locals;
     rows = record {
       rising = may.base.rising;
       known = may.base.known;
-      grows = grows_self sc.issued (knowledge_of s.store);
+      grows = grows_self book.issued (knowledge_of s.store);
       formed = may.base.rows;
       closed = λ u m l e. may.base.closed l u m e;
     };
@@ -51,52 +51,52 @@ module _ (sc : Book) (s : State) (r : Reply) (may : IsTakeable sc s r) where
     idle = λ le. refl;
   }
 
-  module _ (t : Taking) (way : IsTakenSoFar sc s r t) (i : Item) (m : Member i r.items) where
+  module _ (t : Taking) (way : IsTakenSoFar book s r t) (i : Item) (m : Member i r.items) where
     abbrev us : List Update
     us = rows_taken s.store.vector t.rows i
 
     of_item : Each (λ u. IsSent r u) us
     of_item u n = (i, m, taken_from s.store.vector t.rows i.unit i.rows u n)
 
-    writes : MayWrite sc s r may t.rows way.rows i.unit us
-    writes = item_may sc s r may t.rows way.rows i.unit i.rows (may.reply.exact i m)
+    writes : MayWrite book s r may t.rows way.rows i.unit us
+    writes = item_may book s r may t.rows way.rows i.unit i.rows (may.reply.exact i m)
 
-    pub on_the_way : IsTakenSoFar sc s r (taken t i)
-    on_the_way = step sc s r may t way i (taken t i).refusal (taken t i).place (taken t i).objects (taken t i).links us of_item writes
+    pub on_the_way : IsTakenSoFar book s r (taken t i)
+    on_the_way = step book s r may t way i (taken t i).refusal (taken t i).place (taken t i).objects (taken t i).links us of_item writes
 
-    pub item_grows : Grows sc.issued (known_with s t.rows) (known_with s (taken t i).rows)
-    item_grows = step_grows sc s r may t way i (taken t i).refusal (taken t i).place (taken t i).objects (taken t i).links us of_item writes
+    pub item_grows : Grows book.issued (known_with s t.rows) (known_with s (taken t i).rows)
+    item_grows = step_grows book s r may t way i (taken t i).refusal (taken t i).place (taken t i).objects (taken t i).links us of_item writes
 
-    pub is_reflected : Each (λ u. Reflects sc.issued (known_with s (taken t i).rows) u) i.rows
-    is_reflected = item_reflected sc s r may t.rows way.rows (taken t i).rows (grows_keeps sc.issued (known_with s t.rows) (known_with s (taken t i).rows) item_grows) i.unit i.rows (may.reply.exact i m)
-        (step_writes sc s r may t way i (taken t i).refusal (taken t i).place (taken t i).objects (taken t i).links us writes)
+    pub is_reflected : Each (λ u. Reflects book.issued (known_with s (taken t i).rows) u) i.rows
+    is_reflected = item_reflected book s r may t.rows way.rows (taken t i).rows (grows_keeps book.issued (known_with s t.rows) (known_with s (taken t i).rows) item_grows) i.unit i.rows (may.reply.exact i m)
+        (step_writes book s r may t way i (taken t i).refusal (taken t i).place (taken t i).objects (taken t i).links us writes)
 
-  pub all_on_the_way : (is : List Item) (t : Taking) → IsTakenSoFar sc s r t → Each (λ i. Member i r.items) is → IsTakenSoFar sc s r (all t is)
+  pub all_on_the_way : (is : List Item) (t : Taking) → IsTakenSoFar book s r t → Each (λ i. Member i r.items) is → IsTakenSoFar book s r (all t is)
   all_on_the_way [] t way among = way
   all_on_the_way (i ∷ is) t way among = all_on_the_way is (taken t i) (on_the_way t way i (among i (inl refl))) (λ j m. among j (inr m))
 
-  pub all_grow : (is : List Item) (t : Taking) → IsTakenSoFar sc s r t → Each (λ i. Member i r.items) is → Grows sc.issued (known_with s t.rows) (known_with s (all t is).rows)
-  all_grow [] t way among = grows_self sc.issued (known_with s t.rows)
+  pub all_grow : (is : List Item) (t : Taking) → IsTakenSoFar book s r t → Each (λ i. Member i r.items) is → Grows book.issued (known_with s t.rows) (known_with s (all t is).rows)
+  all_grow [] t way among = grows_self book.issued (known_with s t.rows)
   all_grow (i ∷ is) t way among =
       let m = among i (inl refl) in
-      grows_trans sc.issued (known_with s t.rows) (known_with s (taken t i).rows) (known_with s (all (taken t i) is).rows)
+      grows_trans book.issued (known_with s t.rows) (known_with s (taken t i).rows) (known_with s (all (taken t i) is).rows)
       (item_grows t way i m) (all_grow is (taken t i) (on_the_way t way i m) (λ j n. among j (inr n)))
 
   -- the rows of an item are reflected after it, and so after the items that follow
-  pub all_reflected : (is : List Item) (t : Taking) → IsTakenSoFar sc s r t → Each (λ i. Member i r.items) is → Each (λ i. Each (λ u. Reflects sc.issued (known_with s (all t is).rows) u) i.rows) is
+  pub all_reflected : (is : List Item) (t : Taking) → IsTakenSoFar book s r t → Each (λ i. Member i r.items) is → Each (λ i. Each (λ u. Reflects book.issued (known_with s (all t is).rows) u) i.rows) is
   all_reflected [] t way among i m u n = absurd m
   all_reflected (j ∷ is) t way among i (inl e) u n =
-      let next : IsTakenSoFar sc s r (taken t j) = on_the_way t way j (among j (inl refl)) in
-      grows_keeps sc.issued (known_with s (taken t j).rows) (known_with s (all (taken t j) is).rows) (all_grow is (taken t j) next (λ k o. among k (inr o))) u
+      let next : IsTakenSoFar book s r (taken t j) = on_the_way t way j (among j (inl refl)) in
+      grows_keeps book.issued (known_with s (taken t j).rows) (known_with s (all (taken t j) is).rows) (all_grow is (taken t j) next (λ k o. among k (inr o))) u
       (is_reflected t way j (among j (inl refl)) u (subst (λ (k : Item). Member u k.rows) e n))
   all_reflected (j ∷ is) t way among i (inr m) u n = all_reflected is (taken t j) (on_the_way t way j (among j (inl refl))) (λ k o. among k (inr o)) i m u n
 
   -- ---- the whole reply
 
-  pub ends : IsTakenSoFar sc s r (take_items s r.items)
+  pub ends : IsTakenSoFar book s r (take_items s r.items)
   ends = all_on_the_way r.items (begin s) starts (λ i m. m)
 
-  pub items_reflected : (u : Update) → IsSent r u → Reflects sc.issued (known_with s (take_items s r.items).rows) u
+  pub items_reflected : (u : Update) → IsSent r u → Reflects book.issued (known_with s (take_items s r.items).rows) u
   items_reflected u (i, m, n) = all_reflected r.items (begin s) starts (λ j o. o) i m u n
 
 -- ---- limits

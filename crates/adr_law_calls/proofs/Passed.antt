@@ -76,7 +76,7 @@ passed s r c e =
     let g = answered (take_refusal s r (taken_items s r) (state_behind s r)) (change_taken s r) c e in
     (passes_where_granted s r (taken_items s r) (state_behind s r) g.0, g.1)
 
-pub is_taken : (sc : Book) (s : State) (r : Reply) (c : Change) → IsSoundBook sc → IsSoundState sc s → IsSoundReply sc r → take s r ≡ Ok c → IsTaken sc s r c
-is_taken sc s r c book state reply e =
+pub is_taken : (book : Book) (s : State) (r : Reply) (c : Change) → IsSoundBook book → IsSoundState book s → IsSoundReply book r → take s r ≡ Ok c → IsTaken book s r c
+is_taken book s r c sound_book state reply e =
     let p = passed s r c e in
-    record { may = takeable sc s r book state reply p.0.fresh p.0.asked p.0.schema; state = state; is = p.1; passes = p.0 }
+    record { may = takeable book s r sound_book state reply p.0.fresh p.0.asked p.0.schema; state = state; is = p.1; passes = p.0 }

@@ -59,33 +59,33 @@ pub record IsOfItems (harm : TakeRefusal → Bool) : Type 0 where
   pub usn : harm UsnLimit ≡ false
   pub full : (table : Table) (limit : ℕ) → harm (Full table limit) ≡ false
 
-module _ (harm : TakeRefusal → Bool) (sc : Book) (s : State) (r : Reply) (may : IsTakeable sc s r)
-    (item : (t : Taking) → IsTakenSoFar sc s r t → (i : Item) → Member i r.items → IsHarmless harm (item_refusal (numbered s.store.schema) s.store.vector t.rows t.place i)) where
-  items_are_harmless : (is : List Item) (t : Taking) → IsTakenSoFar sc s r t → Each (λ i. Member i r.items) is → IsHarmless harm t.refusal → IsHarmless harm (fold (take_item (numbered s.store.schema) s.store.vector) t is).refusal
+module _ (harm : TakeRefusal → Bool) (book : Book) (s : State) (r : Reply) (may : IsTakeable book s r)
+    (item : (t : Taking) → IsTakenSoFar book s r t → (i : Item) → Member i r.items → IsHarmless harm (item_refusal (numbered s.store.schema) s.store.vector t.rows t.place i)) where
+  items_are_harmless : (is : List Item) (t : Taking) → IsTakenSoFar book s r t → Each (λ i. Member i r.items) is → IsHarmless harm t.refusal → IsHarmless harm (fold (take_item (numbered s.store.schema) s.store.vector) t is).refusal
   items_are_harmless [] t way among h = h
   items_are_harmless (i ∷ is) t way among h =
-      items_are_harmless is (take_item (numbered s.store.schema) s.store.vector t i) (on_the_way sc s r may t way i (among i (inl refl))) (λ j m. among j (inr m))
+      items_are_harmless is (take_item (numbered s.store.schema) s.store.vector t i) (on_the_way book s r may t way i (among i (inl refl))) (λ j m. among j (inr m))
       (first_is (IsCalm harm) t.refusal (item_refusal (numbered s.store.schema) s.store.vector t.rows t.place i ∷ []) h
       (λ _. first_is (IsCalm harm) (item_refusal (numbered s.store.schema) s.store.vector t.rows t.place i) [] (item t way i (among i (inl refl))) (λ _. tt)))
 
   all_are_harmless : IsHarmless harm (take_items s r.items).refusal
-  all_are_harmless = items_are_harmless r.items (begin s) (starts sc s r may) (λ i m. m) (none_is (IsCalm harm) None refl)
+  all_are_harmless = items_are_harmless r.items (begin s) (starts book s r may) (λ i m. m) (none_is (IsCalm harm) None refl)
 
-module _ (harm : TakeRefusal → Bool) (of_items : IsOfItems harm) (sc : Book) (s : State) (r : Reply) (book : IsSoundBook sc) (state : IsSoundState sc s) (reply : IsSoundReply sc r)
-    (rolled : IsHarmless harm (put_back s r)) (items : IsTakeable sc s r → IsHarmless harm (take_items s r.items).refusal) where
+module _ (harm : TakeRefusal → Bool) (of_items : IsOfItems harm) (book : Book) (s : State) (r : Reply) (sound_book : IsSoundBook book) (state : IsSoundState book s) (reply : IsSoundReply book r)
+    (rolled : IsHarmless harm (put_back s r)) (items : IsTakeable book s r → IsHarmless harm (take_items s r.items).refusal) where
   full_is_harmless : (table : Table) (limit count : ℕ) → IsHarmless harm (over_limit table limit count)
   full_is_harmless table limit count = tested_is (IsCalm harm) (nat_lt limit count) (Full table limit) (of_items.full table limit)
 
   pub not_refused : (x : TakeRefusal) → take s r ≡ Err x → harm x ≡ false
   not_refused x e = where_it_is (IsCalm harm) (take_refusal s r (take_items s r.items) (after s (taken_change s r (take_items s r.items)))) x (judged (take_items s r.items) (after s (taken_change s r (take_items s r.items))) items) (refused_by (take_refusal s r (take_items s r.items) (after s (taken_change s r (take_items s r.items)))) (taken_change s r (take_items s r.items)) x e)
     where
-      judged : (t : Taking) (d : State) → (IsTakeable sc s r → IsHarmless harm t.refusal) → IsHarmless harm (take_refusal s r t d)
+      judged : (t : Taking) (d : State) → (IsTakeable book s r → IsHarmless harm t.refusal) → IsHarmless harm (take_refusal s r t d)
       judged t d found = twelve_are_harmless harm
           (then_some (is_quarantined s.mode) Quarantined) (then_some (not (same_identifier r.dest s.dsa)) (NotMine r.dest)) (stale s r) (lags s r) (other_schema s r) (put_back s r)
           t.refusal (then_some (nat_lt usn_limit t.usn) UsnLimit) (over_limit Objects object_limit t.objects) (over_limit Links link_limit t.links)
           (over_limit CursorTable cursor_limit (length d.store.vector)) (over_limit Marks mark_limit (length d.store.marks))
           (tested_is (IsCalm harm) _ Quarantined of_items.quarantined) (tested_is (IsCalm harm) _ (NotMine r.dest) (of_items.not_mine r.dest)) (tested_is (IsCalm harm) _ (Stale (kept_mark s r) r.from) (of_items.stale (kept_mark s r) r.from)) (mapped_is (λ g. VectorBehind g.0 g.1 g.2) (IsCalm harm) (λ g. of_items.behind g.0 g.1 g.2) (first_gap r.asked s.store.vector)) (tested_is (IsCalm harm) _ (SchemaMismatch s.store.schema r.schema) (of_items.schema s.store.schema r.schema)) rolled
-          (λ nc nd ne. found (takeable sc s r book state reply nc nd ne)) (tested_is (IsCalm harm) _ UsnLimit of_items.usn)
+          (λ nc nd ne. found (takeable book s r sound_book state reply nc nd ne)) (tested_is (IsCalm harm) _ UsnLimit of_items.usn)
           (full_is_harmless Objects object_limit t.objects) (full_is_harmless Links link_limit t.links) (full_is_harmless CursorTable cursor_limit (length d.store.vector)) (full_is_harmless Marks mark_limit (length d.store.marks))
 
 -- ---- no item is broken, and no rollback is found
@@ -115,44 +115,44 @@ faultless None place e None = refl
 faultless None place e (Some x) = refl
 faultless (Some x) place e other = absurd (cc)
 
-shown_within : (sc : Book) (s : State) (r : Reply) → IsSoundState sc s → (last : Option Cursors) → IfSome last (IsSoundLast sc r) → option_map_or (λ v. at v s.inv) last 0 ≤ s.store.usn
-shown_within sc s r state None h = omega arith
-shown_within sc s r state (Some w) h = omega (arith, h.bounded s.inv, state.last)
+shown_within : (book : Book) (s : State) (r : Reply) → IsSoundState book s → (last : Option Cursors) → IfSome last (IsSoundLast book r) → option_map_or (λ v. at v s.inv) last 0 ≤ s.store.usn
+shown_within book s r state None h = omega arith
+shown_within book s r state (Some w) h = omega (arith, h.bounded s.inv, state.last)
 
-module _ (sc : Book) (s : State) (r : Reply) (book : IsSoundBook sc) (state : IsSoundState sc s) (reply : IsSoundReply sc r) where
-  sound_item : (may : IsTakeable sc s r) (t : Taking) → IsTakenSoFar sc s r t → (i : Item) → Member i r.items
+module _ (book : Book) (s : State) (r : Reply) (sound_book : IsSoundBook book) (state : IsSoundState book s) (reply : IsSoundReply book r) where
+  sound_item : (may : IsTakeable book s r) (t : Taking) → IsTakenSoFar book s r t → (i : Item) → Member i r.items
       → item_refusal (numbered s.store.schema) s.store.vector t.rows t.place i ≡ incomplete (numbered s.store.schema) s.store.vector t.rows i
-  sound_item may t way i m = faultless (item_fault (numbered s.store.schema) s.store.vector t.rows i) t.place (item_is_sound sc s r may t.rows way.rows i.unit i.rows (reply.exact i m)) (incomplete (numbered s.store.schema) s.store.vector t.rows i)
+  sound_item may t way i m = faultless (item_fault (numbered s.store.schema) s.store.vector t.rows i) t.place (item_is_sound book s r may t.rows way.rows i.unit i.rows (reply.exact i m)) (incomplete (numbered s.store.schema) s.store.vector t.rows i)
 
   pub not_broken : (x : TakeRefusal) → take s r ≡ Err x → is_broken x ≡ false
-  not_broken = not_refused is_broken breaks sc s r book state reply
-      (none_is (IsCalm is_broken) (put_back s r) (unmet _ _ (le-ltb s.store.usn (shown_by_last s r) (shown_within sc s r state r.last reply.last))))
-      (λ may. all_are_harmless is_broken sc s r may (λ t way i m. subst (IsHarmless is_broken) (sym (sound_item may t way i m)) (incomplete_alone (numbered s.store.schema) s.store.vector t.rows i.unit i.rows)))
+  not_broken = not_refused is_broken breaks book s r sound_book state reply
+      (none_is (IsCalm is_broken) (put_back s r) (unmet _ _ (le-ltb s.store.usn (shown_by_last s r) (shown_within book s r state r.last reply.last))))
+      (λ may. all_are_harmless is_broken book s r may (λ t way i m. subst (IsHarmless is_broken) (sym (sound_item may t way i m)) (incomplete_alone (numbered s.store.schema) s.store.vector t.rows i.unit i.rows)))
 
-  whole_item : (may : IsTakeable sc s r) (t : Taking) → IsTakenSoFar sc s r t → (i : Item) → Member i r.items → item_refusal (numbered s.store.schema) s.store.vector t.rows t.place i ≡ None
-  whole_item may t way i m = let first = (reply.exact i m).some in sound_item may t way i m ∙ item_is_whole sc s r may t.rows way.rows i.unit i.rows (reply.exact i m) first.0 first.1
+  whole_item : (may : IsTakeable book s r) (t : Taking) → IsTakenSoFar book s r t → (i : Item) → Member i r.items → item_refusal (numbered s.store.schema) s.store.vector t.rows t.place i ≡ None
+  whole_item may t way i m = let first = (reply.exact i m).some in sound_item may t way i m ∙ item_is_whole book s r may t.rows way.rows i.unit i.rows (reply.exact i m) first.0 first.1
 
   pub not_incomplete : (x : TakeRefusal) → take s r ≡ Err x → is_incomplete x ≡ false
-  not_incomplete = not_refused is_incomplete lack sc s r book state reply
+  not_incomplete = not_refused is_incomplete lack book s r sound_book state reply
       (tested_is (IsCalm is_incomplete) (nat_lt s.store.usn (shown_by_last s r)) (RolledBack s.inv s.store.usn (shown_by_last s r)) refl)
-      (λ may. all_are_harmless is_incomplete sc s r may (λ t way i m. none_is (IsCalm is_incomplete) (item_refusal (numbered s.store.schema) s.store.vector t.rows t.place i) (whole_item may t way i m)))
+      (λ may. all_are_harmless is_incomplete book s r may (λ t way i m. none_is (IsCalm is_incomplete) (item_refusal (numbered s.store.schema) s.store.vector t.rows t.place i) (whole_item may t way i m)))
 
-pub no_broken_item : (sc : Book) (s : State) (r : Reply) (place : ℕ) (cause : ItemFault) → IsSoundBook sc → IsSoundState sc s → IsSoundReply sc r → take s r ≢ Err (BadItem place cause)
-no_broken_item sc s r place cause book state reply e = true≢false (not_broken sc s r book state reply (BadItem place cause) e)
+pub no_broken_item : (book : Book) (s : State) (r : Reply) (place : ℕ) (cause : ItemFault) → IsSoundBook book → IsSoundState book s → IsSoundReply book r → take s r ≢ Err (BadItem place cause)
+no_broken_item book s r place cause sound_book state reply e = true≢false (not_broken book s r sound_book state reply (BadItem place cause) e)
 
-pub no_rollback : (sc : Book) (s : State) (r : Reply) (inv : Identifier) (mine shown : ℕ) → IsSoundBook sc → IsSoundState sc s → IsSoundReply sc r → take s r ≢ Err (RolledBack inv mine shown)
-no_rollback sc s r inv mine shown book state reply e = true≢false (not_broken sc s r book state reply (RolledBack inv mine shown) e)
+pub no_rollback : (book : Book) (s : State) (r : Reply) (inv : Identifier) (mine shown : ℕ) → IsSoundBook book → IsSoundState book s → IsSoundReply book r → take s r ≢ Err (RolledBack inv mine shown)
+no_rollback book s r inv mine shown sound_book state reply e = true≢false (not_broken book s r sound_book state reply (RolledBack inv mine shown) e)
 
-pub no_incomplete_item : (sc : Book) (s : State) (r : Reply) (o : Oid) → IsSoundBook sc → IsSoundState sc s → IsSoundReply sc r → take s r ≢ Err (Incomplete o)
-no_incomplete_item sc s r o book state reply e = true≢false (not_incomplete sc s r book state reply (Incomplete o) e)
+pub no_incomplete_item : (book : Book) (s : State) (r : Reply) (o : Oid) → IsSoundBook book → IsSoundState book s → IsSoundReply book r → take s r ≢ Err (Incomplete o)
+no_incomplete_item book s r o sound_book state reply e = true≢false (not_incomplete book s r sound_book state reply (Incomplete o) e)
 
 -- no item of a reply that may be taken is refused
-pub items_are_whole : (sc : Book) (s : State) (r : Reply) → IsSoundState sc s → IsTakeable sc s r → (take_items s r.items).refusal ≡ None
-items_are_whole sc s r state may = by (take_items s r.items).refusal refl
+pub items_are_whole : (book : Book) (s : State) (r : Reply) → IsSoundState book s → IsTakeable book s r → (take_items s r.items).refusal ≡ None
+items_are_whole book s r state may = by (take_items s r.items).refusal refl
   where
     harmless : IsHarmless (λ x. true) (take_items s r.items).refusal
-    harmless = all_are_harmless (λ x. true) sc s r may
-        (λ t way i m. none_is (IsCalm (λ x. true)) (item_refusal (numbered s.store.schema) s.store.vector t.rows t.place i) (whole_item sc s r may.book state may.reply may t way i m))
+    harmless = all_are_harmless (λ x. true) book s r may
+        (λ t way i m. none_is (IsCalm (λ x. true)) (item_refusal (numbered s.store.schema) s.store.vector t.rows t.place i) (whole_item book s r may.book state may.reply may t way i m))
 
     by : (o : Option TakeRefusal) → (take_items s r.items).refusal ≡ o → o ≡ None
     by None e = refl

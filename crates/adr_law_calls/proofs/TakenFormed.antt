@@ -10,7 +10,7 @@ use Rattle.adr_vector.proofs.Joining.{at-joined, raised_here, rising-raised, fro
 use Rattle.adr_model.specs.Member.{Each}
 use Rattle.adr_model.specs.Live.{objects_of}
 use Rattle.adr_model.specs.Reflects.{AtMost}
-use Rattle.adr_model.specs.Store.{Held, Kept, State, updates_of}
+use Rattle.adr_model.specs.Store.{Held, PartnerMark, State, updates_of}
 use Rattle.adr_model.specs.Formed.{AreRising, AreAlone, AreFormedRows, IsFormedStore, IsFormed}
 use Rattle.adr_model.specs.LocalLog.{IsOrdered}
 use Rattle.adr_model.specs.Serve.{Reply}
@@ -56,7 +56,7 @@ module _ (s : State) (r : Reply) (formed : IsFormed s) (to : IsOrdered r.to) (la
     purged = formed.store.purged;
     purged_within = at_most_from_everywhere s.store.purged d.store.vector formed.store.purged.rising
         (λ i. omega (arith, everywhere_from_at_most s.store.purged s.store.vector formed.store.purged_within i, higher i));
-    marks = each_mark (λ (k : Kept). IsOrdered k.mark) (Some (r.source, record { inv = r.inv; mark = r.to })) s.store.marks to formed.store.marks;
+    marks = each_mark (λ (k : PartnerMark). IsOrdered k.mark) (Some (r.source, record { inv = r.inv; mark = r.to })) s.store.marks to formed.store.marks;
     rising = subst AreRising (sym way.made) way.rising;
     locals = subst (Each (λ (h : Held). (1 ≤ h.local) × (h.local ≤ now.usn))) (sym way.made) way.locals;
     alone = subst AreAlone (sym way.made) way.alone;

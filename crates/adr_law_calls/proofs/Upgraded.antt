@@ -50,31 +50,31 @@ module _ (s : State) (formed : IsFormed s) where
   pub upgraded_formed : IsFormed d
   upgraded_formed = record { store = store; own = (let here = raised_here s.store.vector s.inv s.store.usn in omega (arith, here, formed.own)) }
 
-module _ (sc : Book) (s : State) (book : IsSoundBook sc) (state : IsSoundState sc s) where
+module _ (book : Book) (s : State) (sound_book : IsSoundBook book) (state : IsSoundState book s) where
   abbrev behind : State
   behind = after s (upgraded s)
 
   closed : IsClosed behind.store
   closed l r m is o n = ⊎_elim (λ held. inl held) (λ new. inr (λ born. new (subst (λ (v : Cursors). CoversBirth (at v) o) (same_vector s state.formed) born))) (state.store.closed l r m is o n)
 
-  leaves : Leaves sc s (record { call = ToUpgrade; change = upgraded s })
+  leaves : Leaves book s (record { call = ToUpgrade; change = upgraded s })
   leaves = record {
-    keeps = grows_keeps sc.issued (knowledge_of s.store) (knowledge_of behind.store)
-        (more_covered sc.issued (updates_of s.store.rows) (at s.store.vector) (at behind.store.vector) (at s.store.purged) (at s.store.purged) (raised_up s.store.vector s.inv s.store.usn) (λ i. omega arith));
-    known = λ u m. member_left sc.issued [] u (state.store.known u m);
+    keeps = grows_keeps book.issued (knowledge_of s.store) (knowledge_of behind.store)
+        (more_covered book.issued (updates_of s.store.rows) (at s.store.vector) (at behind.store.vector) (at s.store.purged) (at s.store.purged) (raised_up s.store.vector s.inv s.store.usn) (λ i. omega arith));
+    known = λ u m. member_left book.issued [] u (state.store.known u m);
     issued = λ u m. absurd m;
     joined = empty_is_formed.vector;
     bounded = λ i. omega arith;
-    carried = λ u m le. absurd (omega (arith, le, (book.once u m).0));
+    carried = λ u m le. absurd (omega (arith, le, (sound_book.once u m).0));
     formed = (upgraded_formed s state.formed).store;
     closed = closed;
     classes = classes_known_more (numbered s.store.schema) (numbered 2) (second_is_last s.store.schema) (updates_of s.store.rows) state.store.classes;
     mark = tt;
   }
 
-  follows : Follows (last_of sc s.inv) (upgraded s)
+  follows : Follows (last_of book s.inv) (upgraded s)
   follows = record { rises = omega (arith, state.last); above = λ x m. absurd m; within = λ x m. absurd m; idle = λ le. (refl, refl) }
 
-pub upgrade_leaves : (sc : Book) (s : State) (c : Change) → IsSoundBook sc → IsSoundState sc s → upgrade s ≡ Ok c → Follows (last_of sc s.inv) c × Leaves sc s (record { call = ToUpgrade; change = c })
-upgrade_leaves sc s c book state e = subst (λ (x : Change). Follows (last_of sc s.inv) x × Leaves sc s (record { call = ToUpgrade; change = x })) (answered (upgrade_refusal s) (upgraded s) c e).1
-    (follows sc s book state, leaves sc s book state)
+pub upgrade_leaves : (book : Book) (s : State) (c : Change) → IsSoundBook book → IsSoundState book s → upgrade s ≡ Ok c → Follows (last_of book s.inv) c × Leaves book s (record { call = ToUpgrade; change = c })
+upgrade_leaves book s c sound_book state e = subst (λ (x : Change). Follows (last_of book s.inv) x × Leaves book s (record { call = ToUpgrade; change = x })) (answered (upgrade_refusal s) (upgraded s) c e).1
+    (follows book s sound_book state, leaves book s sound_book state)

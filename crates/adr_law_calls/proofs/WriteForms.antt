@@ -43,7 +43,7 @@ module _ (s : State) (us : List Update) (after : List Held) (are : ArePut (s.sto
   ends_held (Object o) may r m l is p n = absurd (no_link_row r.key o l (may.put.of_unit r m) is)
   ends_held (Link k) may r m l is p n = (may.fits.ends p (subst (λ j. Member p (ends (LinkOf j))) (same_link r.key k l (may.put.of_unit r m) is) n)).0
 
-  module _ (sc : Book) (book : IsSoundBook sc) (state : IsSoundState sc s) where
+  module _ (book : Book) (sound_book : IsSoundBook book) (state : IsSoundState book s) where
     abbrev W : Numbers
     W = at (raised s.store.vector s.inv (s.store.usn + 1))
 
@@ -54,5 +54,5 @@ module _ (s : State) (us : List Update) (after : List Held) (are : ArePut (s.sto
     pub stays_closed : (unit : Named) → MayWrite s unit us → AreClosed W (updates_of after)
     stays_closed unit may r m l is o n = ⊎_elim
         (λ i. inl (objects_stay (s.store.usn + 1) s.store.rows after us o are (ends_held unit may r i l is o n)))
-        (λ i. ⊎_elim (λ h. inl h) (λ new. inr (λ c. new (born_before sc s (s.store.usn + 1) book state r (state.store.known r i) o (subst (λ k. Member o (ends k)) (sym is) n) c))) (closed_before unit may r m l is o n))
+        (λ i. ⊎_elim (λ h. inl h) (λ new. inr (λ c. new (born_before book s (s.store.usn + 1) sound_book state r (state.store.known r i) o (subst (λ k. Member o (ends k)) (sym is) n) c))) (closed_before unit may r m l is o n))
         (whence_update (s.store.usn + 1) us s.store.rows after are r m)

@@ -30,8 +30,8 @@ use Rattle.adr_law_calls.proofs.WriteFormed.{stands, are_written, write_formed}
 use Rattle.adr_law_calls.proofs.Issues.{change_of}
 use Rattle.adr_law_knowledge.proofs.Lists.{alone_from}
 
-module _ (sc : Book) (s : State) (unit : Named) (us : List Update) (rows : List Held)
-    (book : IsSoundBook sc) (state : IsSoundState sc s) (may : MayWrite s unit us)
+module _ (book : Book) (s : State) (unit : Named) (us : List Update) (rows : List Held)
+    (sound_book : IsSoundBook book) (state : IsSoundState book s) (may : MayWrite s unit us)
     (are : ArePut (s.store.usn + 1) us s.store.rows rows) where
   abbrev V : Numbers
   V = at s.store.vector
@@ -62,17 +62,17 @@ module _ (sc : Book) (s : State) (unit : Named) (us : List Update) (rows : List 
       put_alone : Knowledge
       put_alone = record { rows = updates_of rows; vector = V; purged = P }
 
-  keeps : (u : Update) → Reflects sc.issued (knowledge_of s.store) u → Reflects sc.issued (knowledge_of left) u
-  keeps = grows_keeps sc.issued (knowledge_of s.store) (knowledge_of left) (grows sc.issued)
+  keeps : (u : Update) → Reflects book.issued (knowledge_of s.store) u → Reflects book.issued (knowledge_of left) u
+  keeps = grows_keeps book.issued (knowledge_of s.store) (knowledge_of left) (grows book.issued)
 
-  known : Each (λ u. Member u (sc.issued ++ (us ++ []))) (updates_of rows)
-  known u m = ⊎_elim (λ n. member_right sc.issued (us ++ []) u (member_left us [] u n)) (λ n. member_left sc.issued (us ++ []) u (state.store.known u n)) (whence_update (s.store.usn + 1) us s.store.rows rows are u m)
+  known : Each (λ u. Member u (book.issued ++ (us ++ []))) (updates_of rows)
+  known u m = ⊎_elim (λ n. member_right book.issued (us ++ []) u (member_left us [] u n)) (λ n. member_left book.issued (us ++ []) u (state.store.known u n)) (whence_update (s.store.usn + 1) us s.store.rows rows are u m)
 
   pub written : (issued : List Update) → Each (λ u. Reflects issued (knowledge_of left) u) (us ++ [])
   written issued u m = inl (u, updated rows (held_at (s.store.usn + 1) u) (are.written u (alone_from us u m)), supersedes_self u)
 
   closed : IsClosed left
-  closed l r m is o n = stays_closed s us rows are sc book state unit may r m l is o n
+  closed l r m is o n = stays_closed s us rows are book sound_book state unit may r m l is o n
 
   classes : AreClassesKnown (numbered s.store.schema) (updates_of rows)
   classes = classes_stay s us rows are unit may state.store.classes
@@ -80,20 +80,20 @@ module _ (sc : Book) (s : State) (unit : Named) (us : List Update) (rows : List 
   nothing_joined : IsVector []
   nothing_joined = empty_is_formed.vector
 
-  nothing_carried : Each (λ u. Covers (at []) u → Reflects sc.issued (knowledge_of left) u) sc.issued
-  nothing_carried u m c = absurd (omega (arith, (book.once u m).0, c))
+  nothing_carried : Each (λ u. Covers (at []) u → Reflects book.issued (knowledge_of left) u) book.issued
+  nothing_carried u m c = absurd (omega (arith, (sound_book.once u m).0, c))
 
-module _ (sc : Book) (s : State) (item : Item) (book : IsSoundBook sc) (state : IsSoundState sc s) (may : MayWrite s item.unit item.rows) where
-  pub write_leaves : (w : Write) (now : ℕ) → Leaves sc s (record { call = ToWrite w now; change = change_of s item })
+module _ (book : Book) (s : State) (item : Item) (sound_book : IsSoundBook book) (state : IsSoundState book s) (may : MayWrite s item.unit item.rows) where
+  pub write_leaves : (w : Write) (now : ℕ) → Leaves book s (record { call = ToWrite w now; change = change_of s item })
   write_leaves w now = record {
-    keeps = keeps sc s item.unit item.rows (stands s item) book state may (are_written s item state.formed may);
-    known = known sc s item.unit item.rows (stands s item) book state may (are_written s item state.formed may);
-    issued = written sc s item.unit item.rows (stands s item) book state may (are_written s item state.formed may) sc.issued;
-    joined = nothing_joined sc s item.unit item.rows (stands s item) book state may (are_written s item state.formed may);
+    keeps = keeps book s item.unit item.rows (stands s item) sound_book state may (are_written s item state.formed may);
+    known = known book s item.unit item.rows (stands s item) sound_book state may (are_written s item state.formed may);
+    issued = written book s item.unit item.rows (stands s item) sound_book state may (are_written s item state.formed may) book.issued;
+    joined = nothing_joined book s item.unit item.rows (stands s item) sound_book state may (are_written s item state.formed may);
     bounded = λ i. omega arith;
-    carried = nothing_carried sc s item.unit item.rows (stands s item) book state may (are_written s item state.formed may);
+    carried = nothing_carried book s item.unit item.rows (stands s item) sound_book state may (are_written s item state.formed may);
     formed = (write_formed s item state.formed may).store;
-    closed = closed sc s item.unit item.rows (stands s item) book state may (are_written s item state.formed may);
-    classes = classes sc s item.unit item.rows (stands s item) book state may (are_written s item state.formed may);
+    closed = closed book s item.unit item.rows (stands s item) sound_book state may (are_written s item state.formed may);
+    classes = classes book s item.unit item.rows (stands s item) sound_book state may (are_written s item state.formed may);
     mark = tt;
   }

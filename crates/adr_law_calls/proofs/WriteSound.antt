@@ -37,13 +37,13 @@ may_write_in_turn s (AddLink from attr to) now formed given none = (refl, may_wr
 may_write_in_turn s (RemoveLink from attr to) now formed given none = (refl, may_write s (RemoveLink from attr to) now formed given none, tt)
 may_write_in_turn s (Revive image guid parent text) now formed given none = (refl, may_revive s formed image guid parent text given none now, may_relink s formed image guid parent text given none now)
 
-pub write_leaves_sound : (sc : Book) (s : State) (w : Write) (now : ℕ) (c : Change) → IsSoundBook sc → IsSoundState sc s → IsWellGiven w → write s w now ≡ Ok c
-    → MayIssue sc c (issued_by (ToWrite w now) c) × Leaves sc s (record { call = ToWrite w now; change = c })
-write_leaves_sound sc s w now c book state given made =
+pub write_leaves_sound : (book : Book) (s : State) (w : Write) (now : ℕ) (c : Change) → IsSoundBook book → IsSoundState book s → IsWellGiven w → write s w now ≡ Ok c
+    → MayIssue book c (issued_by (ToWrite w now) c) × Leaves book s (record { call = ToWrite w now; change = c })
+write_leaves_sound book s w now c sound_book state given made =
     let t = answered (write_refusal s w) (own_change s (items_written s w now)) c made in
     let may = may_write_in_turn s w now state.formed given t.0 in
     let first : Written = record { local = s.store.usn + 1; item = rows_written s w now } in
-    subst (λ (d : Change). MayIssue sc d (issued_by (ToWrite w now) d) × Leaves sc s (record { call = ToWrite w now; change = d })) t.1 (
-      in_turn_issue w now sc s first (more_written s w now) book state may (items_are_own s w now),
-      in_turn_leave w now sc s first (more_written s w now) book state may (items_are_own s w now),
+    subst (λ (d : Change). MayIssue book d (issued_by (ToWrite w now) d) × Leaves book s (record { call = ToWrite w now; change = d })) t.1 (
+      in_turn_issue w now book s first (more_written s w now) sound_book state may (items_are_own s w now),
+      in_turn_leave w now book s first (more_written s w now) sound_book state may (items_are_own s w now),
     )

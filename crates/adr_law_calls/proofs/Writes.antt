@@ -30,7 +30,7 @@ pub well_said : (s : State) (o : Oid) (us : List Update) (f : Fits s (Object o) 
 well_said s o us (class, inl c) = c.said
 well_said s o us (class, inr c) = c.0.said
 
-module _ (sc : Book) (s : State) (book : IsSoundBook sc) (state : IsSoundState sc s) where
+module _ (book : Book) (s : State) (sound_book : IsSoundBook book) (state : IsSoundState book s) where
   abbrev before : List Update
   before = updates_of s.store.rows
 
@@ -38,10 +38,10 @@ module _ (sc : Book) (s : State) (book : IsSoundBook sc) (state : IsSoundState s
   formed = state.store.formed.rows
 
   abbrev Birth : List Update → Oid → Type 0
-  Birth us o = (b : Update) × Member b (sc.issued ++ us) × IsBirthOf o b
+  Birth us o = (b : Update) × Member b (book.issued ++ us) × IsBirthOf o b
 
   held_birth : (us : List Update) (o : Oid) (r : Update) → Member r before → r.key ≡ RowOf o class_attr → Birth us o
-  held_birth us o r m is = (r, member_left sc.issued us r (state.store.known r m), (is, formed.births o r m is))
+  held_birth us o r m is = (r, member_left book.issued us r (state.store.known r m), (is, formed.births o r m is))
 
   -- a held object was born by what was issued
   object_born : (us : List Update) (o : Oid) → HoldsObject before o → Birth us o
@@ -55,7 +55,7 @@ module _ (sc : Book) (s : State) (book : IsSoundBook sc) (state : IsSoundState s
     where
       by : (class : ℕ) → Changes s p class us ⊎ Comes s p class us → Birth (us ++ []) p
       by class (inl c) = held_birth (us ++ []) p c.of_class.0 c.of_class.1 c.of_class.2
-      by class (inr c) = let k = c.0.of_class in (k.0, member_right sc.issued (us ++ []) k.0 (member_left us [] k.0 k.1), (k.2, ((c.0.said k.0 k.1).of_class k.2).1))
+      by class (inr c) = let k = c.0.of_class in (k.0, member_right book.issued (us ++ []) k.0 (member_left us [] k.0 k.1), (k.2, ((c.0.said k.0 k.1).of_class k.2).1))
 
   pub class_rows_born : (unit : Named) (us : List Update) → MayWrite s unit us → Each (λ u. (o : Oid) → u.key ≡ RowOf o class_attr → is_birth o u ≡ true) us
   class_rows_born (Link l) us may u m o is = absurd (no_object_row u.key l o class_attr (may.put.of_unit u m) is)

@@ -21,9 +21,9 @@ use Rattle.adr_law_knowledge.specs.Grows.{Grows}
 use Rattle.adr_law_steps.specs.Puts.{AreClosed}
 
 -- what is asked of the rows and vectors that take a reply, be they a controller's or not: no limits, and no log of their own
-pub record IsSoundBase (sc : Book) (s : Store) : Type 0 where
-  pub known : Each (λ u. Member u sc.issued) (updates_of s.rows)
-  pub covered : Each (λ u. Covers (at s.vector) u → Reflects sc.issued (knowledge_of s) u) sc.issued
+pub record IsSoundBase (book : Book) (s : Store) : Type 0 where
+  pub known : Each (λ u. Member u book.issued) (updates_of s.rows)
+  pub covered : Each (λ u. Covers (at s.vector) u → Reflects book.issued (knowledge_of s) u) book.issued
   pub purged_within : AtMost (at s.purged) (at s.vector)
   pub rising : AreRising s.rows
   pub locals : Each (λ h. (1 ≤ h.local) × (h.local ≤ s.usn)) s.rows
@@ -33,11 +33,11 @@ pub record IsSoundBase (sc : Book) (s : Store) : Type 0 where
   pub classes : AreClassesKnown (numbered s.schema) (updates_of s.rows)
 
 -- the mark at which the reply begins tells the truth, what it was asked with is covered, and both keep to one schema
-pub record IsTakeable (sc : Book) (s : State) (r : Reply) : Type 0 where
-  pub book : IsSoundBook sc
-  pub base : IsSoundBase sc s.store
-  pub reply : IsSoundReply sc r
-  pub mark : IsSoundMark sc (knowledge_of s.store) r.inv r.from
+pub record IsTakeable (b : Book) (s : State) (r : Reply) : Type 0 where
+  pub book : IsSoundBook b
+  pub base : IsSoundBase b s.store
+  pub reply : IsSoundReply b r
+  pub mark : IsSoundMark b (knowledge_of s.store) r.inv r.from
   pub asked : AtMost (at r.asked) (at s.store.vector)
   pub schema : r.schema ≡ s.store.schema
 
@@ -47,13 +47,13 @@ known_with s rows = record { rows = updates_of rows; vector = at s.store.vector;
 
 -- the rows that the source had
 abbrev pub source_rows : Book → Reply → List Held
-source_rows sc r = rows_at (log_of sc r.inv) r.to.seen
+source_rows book r = rows_at (log_of book r.inv) r.to.seen
 
 -- rows on the way are in order, formed, closed and stem from the start or the reply, and nothing was lost
-pub record AreOnTheWay (sc : Book) (s : State) (rows : List Held) : Type 0 where
+pub record AreOnTheWay (book : Book) (s : State) (rows : List Held) : Type 0 where
   pub rising : AreRising rows
-  pub known : Each (λ u. Member u sc.issued) (updates_of rows)
-  pub grows : Grows sc.issued (knowledge_of s.store) (known_with s rows)
+  pub known : Each (λ u. Member u book.issued) (updates_of rows)
+  pub grows : Grows book.issued (knowledge_of s.store) (known_with s rows)
   pub formed : AreFormedRows (numbered s.store.schema) (updates_of rows)
   pub closed : AreClosed (at s.store.vector) (updates_of rows)
 
@@ -67,9 +67,9 @@ pub record StaysFormed (s : State) (t : Taking) : Type 0 where
   pub rises : s.store.usn ≤ t.usn
 
 -- and of a sound reply: what is written is of the reply and follows the USN of the start
-pub record IsTakenSoFar (sc : Book) (s : State) (r : Reply) (t : Taking) : Type 0 where
+pub record IsTakenSoFar (book : Book) (s : State) (r : Reply) (t : Taking) : Type 0 where
   pub steady : StaysFormed s t
-  pub rows : AreOnTheWay sc s t.rows
+  pub rows : AreOnTheWay book s t.rows
   pub sent : Each (λ h. IsSent r h.update) (held_of t.writes)
   pub above : Each (λ h. s.store.usn < h.local) (held_of t.writes)
   pub within : Each (λ h. h.local ≤ t.usn) (held_of t.writes)
@@ -113,8 +113,8 @@ abbrev pub state_behind : State → Reply → State
 state_behind s r = after s (change_taken s r)
 
 -- the reply may be taken, its change is the one of its items, and it passes all tests
-pub record IsTaken (sc : Book) (s : State) (r : Reply) (c : Change) : Type 0 where
-  pub may : IsTakeable sc s r
-  pub state : IsSoundState sc s
+pub record IsTaken (book : Book) (s : State) (r : Reply) (c : Change) : Type 0 where
+  pub may : IsTakeable book s r
+  pub state : IsSoundState book s
   pub is : change_taken s r ≡ c
   pub passes : Passes s r (taken_items s r) (state_behind s r)

@@ -12,7 +12,7 @@ ghost use Rattle.adr_law_logs.specs.Settling.{Leaves};
 /// A sound state that collects: the change follows in its log, and leaves what a sound state needs.
 #[tactic(none)]
 pub fn collections_leave_sound_states()
-    ensures { (sc : Book) (s : State) (now lifetime : ℕ) (c : Change) → IsSoundBook sc → IsSoundState sc s
+    ensures { (book : Book) (s : State) (now lifetime : ℕ) (c : Change) → IsSoundBook book → IsSoundState book s
         → collect s now lifetime ≡ Ok c
-        → Follows (last_of sc s.inv) c × Leaves sc s (record { call = ToCollect now lifetime; change = c }) }
+        → Follows (last_of book s.inv) c × Leaves book s (record { call = ToCollect now lifetime; change = c }) }
 {}

@@ -22,35 +22,35 @@ ghost use Rattle.adr_law_logs.specs.Settling.{Leaves};
 /// issued, and leaves what a sound state needs.
 #[tactic(none)]
 pub fn taken_replies_leave_sound_states()
-    ensures { (sc : Book) (s : State) (r : Reply) (c : Change) → IsSoundBook sc → IsSoundState sc s
-        → IsSoundReply sc r → take s r ≡ Ok c
-        → Follows (last_of sc s.inv) c × (MayIssue sc c [] × Leaves sc s (record { call = ToTake r; change = c })) }
+    ensures { (book : Book) (s : State) (r : Reply) (c : Change) → IsSoundBook book → IsSoundState book s
+        → IsSoundReply book r → take s r ≡ Ok c
+        → Follows (last_of book s.inv) c × (MayIssue book c [] × Leaves book s (record { call = ToTake r; change = c })) }
 {}
 
 /// A sound state finds no item of a sound reply broken or incomplete, and that it was put back it
 /// doesn't find either.
 #[tactic(none)]
 pub fn sound_replies_are_whole()
-    ensures broken { (sc : Book) (s : State) (r : Reply) (place : ℕ) (cause : ItemFault) → IsSoundBook sc
-        → IsSoundState sc s → IsSoundReply sc r → take s r ≢ Err (BadItem place cause) }
-    ensures incomplete { (sc : Book) (s : State) (r : Reply) (o : Oid) → IsSoundBook sc → IsSoundState sc s
-        → IsSoundReply sc r → take s r ≢ Err (Incomplete o) }
-    ensures rollback { (sc : Book) (s : State) (r : Reply) (inv : Identifier) (mine shown : ℕ) → IsSoundBook sc
-        → IsSoundState sc s → IsSoundReply sc r → take s r ≢ Err (RolledBack inv mine shown) }
+    ensures broken { (book : Book) (s : State) (r : Reply) (place : ℕ) (cause : ItemFault) → IsSoundBook book
+        → IsSoundState book s → IsSoundReply book r → take s r ≢ Err (BadItem place cause) }
+    ensures incomplete { (book : Book) (s : State) (r : Reply) (o : Oid) → IsSoundBook book → IsSoundState book s
+        → IsSoundReply book r → take s r ≢ Err (Incomplete o) }
+    ensures rollback { (book : Book) (s : State) (r : Reply) (inv : Identifier) (mine shown : ℕ) → IsSoundBook book
+        → IsSoundState book s → IsSoundReply book r → take s r ≢ Err (RolledBack inv mine shown) }
 {}
 
 /// A row that comes with a reply was sent (*from*), and where nothing that was sent is covered, it wasn't
 /// taken before (*lacked*). Where all that was sent was taken, nothing is written (*idle*).
 #[tactic(none)]
 pub fn replies_bring_what_was_lacking()
-    ensures from { (sc : Book) (s : State) (r : Reply) (c : Change) → IsSoundBook sc → IsSoundState sc s
-        → IsSoundReply sc r → take s r ≡ Ok c
+    ensures from { (book : Book) (s : State) (r : Reply) (c : Change) → IsSoundBook book → IsSoundState book s
+        → IsSoundReply book r → take s r ≡ Ok c
         → Each (λ u. Member u (updates_of s.store.rows) ⊎ IsSent r u) (updates_of (after s c).store.rows) }
-    ensures lacked { (sc : Book) (s : State) (r : Reply) (c : Change) → IsSoundBook sc → IsSoundState sc s
-        → IsSoundReply sc r → take s r ≡ Ok c
+    ensures lacked { (book : Book) (s : State) (r : Reply) (c : Change) → IsSoundBook book → IsSoundState book s
+        → IsSoundReply book r → take s r ≡ Ok c
         → ((u : Update) → IsSent r u → Covers (at s.store.vector) u → ⊥)
-        → Each (λ u. Member u (updates_of s.store.rows) ⊎ (IsSent r u × (Reflects sc.issued (knowledge_of s.store) u → ⊥))) (updates_of (after s c).store.rows) }
-    ensures idle { (sc : Book) (s : State) (r : Reply) (c : Change) → IsSoundBook sc → IsSoundState sc s
-        → IsSoundReply sc r → take s r ≡ Ok c
-        → ((u : Update) → IsSent r u → Covers (at s.store.vector) u → ⊥) → ((u : Update) → IsSent r u → Reflects sc.issued (knowledge_of s.store) u) → c.usn ≡ s.store.usn }
+        → Each (λ u. Member u (updates_of s.store.rows) ⊎ (IsSent r u × (Reflects book.issued (knowledge_of s.store) u → ⊥))) (updates_of (after s c).store.rows) }
+    ensures idle { (book : Book) (s : State) (r : Reply) (c : Change) → IsSoundBook book → IsSoundState book s
+        → IsSoundReply book r → take s r ≡ Ok c
+        → ((u : Update) → IsSent r u → Covers (at s.store.vector) u → ⊥) → ((u : Update) → IsSent r u → Reflects book.issued (knowledge_of s.store) u) → c.usn ≡ s.store.usn }
 {}

@@ -12,6 +12,6 @@ ghost use Rattle.adr_law_logs.specs.Settling.{Leaves};
 /// A sound state that changes over: the change follows in its log, and leaves what a sound state needs.
 #[tactic(none)]
 pub fn upgrades_leave_sound_states()
-    ensures { (sc : Book) (s : State) (c : Change) → IsSoundBook sc → IsSoundState sc s → upgrade s ≡ Ok c
-        → Follows (last_of sc s.inv) c × Leaves sc s (record { call = ToUpgrade; change = c }) }
+    ensures { (book : Book) (s : State) (c : Change) → IsSoundBook book → IsSoundState book s → upgrade s ≡ Ok c
+        → Follows (last_of book s.inv) c × Leaves book s (record { call = ToUpgrade; change = c }) }
 {}

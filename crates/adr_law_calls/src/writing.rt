@@ -14,7 +14,7 @@ ghost use Rattle.adr_law_logs.specs.Settling.{Leaves};
 /// sound state needs.
 #[tactic(none)]
 pub fn writes_leave_sound_states()
-    ensures { (sc : Book) (s : State) (w : Write) (now : ℕ) (c : Change) → IsSoundBook sc → IsSoundState sc s
+    ensures { (book : Book) (s : State) (w : Write) (now : ℕ) (c : Change) → IsSoundBook book → IsSoundState book s
         → IsWellGiven w → write s w now ≡ Ok c
-        → MayIssue sc c (issued_by (ToWrite w now) c) × Leaves sc s (record { call = ToWrite w now; change = c }) }
+        → MayIssue book c (issued_by (ToWrite w now) c) × Leaves book s (record { call = ToWrite w now; change = c }) }
 {}

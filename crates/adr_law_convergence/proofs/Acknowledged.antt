@@ -22,7 +22,8 @@ use Rattle.adr_model.specs.Serve.{Request, Reply}
 use Rattle.adr_model.specs.Write.{Write, AddObject, Modify, Rename, Delete, AddLink, RemoveLink, next_row, object_of, nodes_held, rows_written, items_written, own_change, write_refusal, write, Revive}
 use Rattle.adr_model.specs.Given.{IsWellGiven}
 use Rattle.adr_model.specs.Refused.{write_refused, serve_refused, take_refused, full}
-use Rattle.adr_model.specs.Replica.{Pending, ToWrite, Up, Failed, Stops, Fails, Replica, moved, Went, Passed, Met, moves_of_commit, standing_after, outcome_after, commit_goes, device_after_commit}
+use Rattle.adr_disk.specs.declared.memory.Mishap.TheVariants.{Fails, Stops}
+use Rattle.adr_model.specs.Replica.{Pending, ToWrite, Up, Failed, Replica, moved, Went, Passed, Met, moves_of_commit, standing_after, outcome_after, commit_goes, device_after_commit}
 use Rattle.adr_model.specs.World.{Name, World, Gone, stays, bound_at, with_replica, committed, commit, after_write, writes, asks, serves_request, delivers}
 use Rattle.adr_model.specs.Cycles.{reply_limit, pull_version}
 use Rattle.adr_model.specs.Step.{ClientWrite, client_write, write_of, step}

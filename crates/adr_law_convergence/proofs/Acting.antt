@@ -16,7 +16,8 @@ use Rattle.adr_model.specs.Write.{Write, items_written, own_change, write_refusa
 use Rattle.adr_model.specs.Given.{IsWellGiven}
 use Rattle.adr_model.specs.Take.{take}
 use Rattle.adr_model.specs.Collect.{collection, deaths_to_collect, collect_refusal, collect}
-use Rattle.adr_model.specs.Replica.{Pending, ToWrite, ToTake, ToCollect, change_of, change_in, Standing, Up, Plan, Replica, Book, Settle, moved, moves_of_commit, moves_of_start, standing_after, Failed, ToUpgrade, Device, commit_goes, start_goes, device_after_commit, device_after_start}
+use Rattle.adr_disk.specs.declared.memory.Plan.{Plan}
+use Rattle.adr_model.specs.Replica.{Pending, ToWrite, ToTake, ToCollect, change_of, change_in, Standing, Up, Replica, Book, Settle, moved, moves_of_commit, moves_of_start, standing_after, Failed, ToUpgrade, Device, commit_goes, start_goes, device_after_commit, device_after_start}
 use Rattle.adr_model.specs.World.{World, Gone, with_replica, committed, commit, after_write, after_collect, after_take, after_moves, after_upgrade}
 use Rattle.adr_model.specs.Sound.{IsSoundCall, IsSettled, IsSoundReplica, IsSoundReply, IsGiven, IsSoundWorld, WereTold, IsTraced, IsTracedReply, IsSoundLast}
 use Rattle.adr_law_calls.proofs.Refused.{no_rollback as reply_shows_no_rollback}
@@ -33,8 +34,8 @@ use Rattle.adr_law_calls.proofs.Passed.{passed}
 use Rattle.adr_law_logs.proofs.Empty.{empty_is_formed}
 
 -- a device changes nothing of what is sound
-on_device_sound : (sc : Book) (r : Replica) (device : Device) → IsSoundReplica sc r → IsSoundReplica sc (record r { device = device })
-on_device_sound sc r device is = record { safe = is.safe; read = ⊎_elim (λ settled. inl settled) (λ p. inr (p.0, record { kept = p.1.kept; call = p.1.call; made = p.1.made; read = p.1.read; not_up = p.1.not_up })) is.read }
+on_device_sound : (book : Book) (r : Replica) (device : Device) → IsSoundReplica book r → IsSoundReplica book (record r { device = device })
+on_device_sound book r device is = record { safe = is.safe; read = ⊎_elim (λ settled. inl settled) (λ p. inr (p.0, record { kept = p.1.kept; call = p.1.call; made = p.1.made; read = p.1.read; not_up = p.1.not_up })) is.read }
 
 module _ (w : World) (sound : IsSoundWorld w) (r : Replica) (there : Member r w.replicas) where
   pub moved_world : (m : Book × Replica) (standing : Standing) (device : Device) → HasMoved (IsTraced w) w.book r m standing

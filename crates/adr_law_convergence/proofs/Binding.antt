@@ -10,7 +10,7 @@ use Rattle.adr_call.specs.declared.refusal.ServeRefusal.TheVariants as serves
 use Rattle.adr_model.specs.Member.{Member, Each}
 use Rattle.adr_model.specs.Update.{Identifier}
 use Rattle.adr_model.specs.Place.{identifier}
-use Rattle.adr_model.specs.Store.{Kept, Store, no_mark, kept_of}
+use Rattle.adr_model.specs.Store.{PartnerMark, Store, no_mark, kept_of}
 use Rattle.adr_model.specs.Serve.{Request, Reply, is_quarantined, ask, serve_refusal, reply_to, serve}
 use Rattle.adr_model.specs.Collect.{backup}
 use Rattle.adr_model.specs.Replica.{Replica}
@@ -49,7 +49,7 @@ only_made P x p y e = let s : x ≡ y = cc in subst P s p
 
 -- what a partner is kept under is given, or nothing is kept
 kept_given : (w : World) (s : Store) (partner : Identifier) → AreMarksGiven w s → IsGiven w (kept_of s partner).inv
-kept_given w s partner given = each_found (λ (k : Kept). IsGiven w k.inv) (is_at (identifier_order partner)) s.marks (record { inv = identifier 0; mark = no_mark }) (inr refl) given
+kept_given w s partner given = each_found (λ (k : PartnerMark). IsGiven w k.inv) (is_at (identifier_order partner)) s.marks (record { inv = identifier 0; mark = no_mark }) (inr refl) given
 
 abbrev pub IsRequest : World → Request → Type 0
 IsRequest w q = IsSoundRequest w.book q × IsGiven w q.inv

@@ -19,7 +19,8 @@ use Rattle.adr_model.specs.Collect.{collect, backup, quarantine}
 use Rattle.adr_call.specs.declared.refusal.UpgradeRefusal.{UpgradeRefusal}
 use Rattle.adr_model.specs.Upgrade.{upgrade}
 use Rattle.adr_model.specs.Refused.{serve_refused, take_refused}
-use Rattle.adr_model.specs.Replica.{Call, Pending, change_in, change_of, ToWrite, ToTake, ToCollect, ToUpgrade, ToQuarantine, Standing, Up, Down, Failed, Plan, Replica, Move, Settle, moves_of_commit, moves_of_start, standing_after, Device, commit_goes, start_goes, device_after_commit, device_after_start, device_settled}
+use Rattle.adr_disk.specs.declared.memory.Plan.{Plan}
+use Rattle.adr_model.specs.Replica.{Call, Pending, change_in, change_of, ToWrite, ToTake, ToCollect, ToUpgrade, ToQuarantine, Standing, Up, Down, Failed, Replica, Move, Settle, moves_of_commit, moves_of_start, standing_after, Device, commit_goes, start_goes, device_after_commit, device_after_start, device_settled}
 use Rattle.adr_model.specs.World.{Name, World, Gone, Sent, stays, nothing, replica_at, of_made, of_controller, committed, commit, quarantines, writes, after_write, after_collect, after_upgrade, noted, asks, after_serve, served, serves_request, after_take, delivered, delivers, backed_up, with_plan, after_moves, stops, starts}
 use Rattle.adr_law_convergence.proofs.Reached.{made_case, up_case, reached_case, fits_case}
 

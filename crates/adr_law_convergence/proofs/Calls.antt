@@ -21,11 +21,11 @@ use Rattle.adr_law_calls.proofs.Upgraded.{upgrade_leaves}
 use Rattle.adr_law_calls.proofs.TakenLeaves.{taken_leaves}
 
 -- what is asked of a call before it settles
-pub record Settles (sc : Book) (s : State) (p : Pending) : Type 0 where
-  pub follows : Follows (last_of sc s.inv) p.change
-  pub issued : AreIssuedBy sc s.inv p.change (issued_by p.call p.change)
-  pub content : MayIssue sc p.change (issued_by p.call p.change)
-  pub leaves : Leaves sc s p
+pub record Settles (book : Book) (s : State) (p : Pending) : Type 0 where
+  pub follows : Follows (last_of book s.inv) p.change
+  pub issued : AreIssuedBy book s.inv p.change (issued_by p.call p.change)
+  pub content : MayIssue book p.change (issued_by p.call p.change)
+  pub leaves : Leaves book s p
   pub normal : p.change.mode ≡ Normal
 
 pub in_change : {E : Type 0} (r : Result Change E) (c : Change) → change_in r ≡ Some c → r ≡ Ok c
@@ -33,17 +33,17 @@ in_change (Ok d) c e = cc
 in_change (Err x) c e = absurd (cc)
 
 -- a change of no writes that issues nothing
-issues_nothing : (sc : Book) (c : Change) → c.writes ≡ [] → MayIssue sc c []
-issues_nothing sc c none = record {
+issues_nothing : (book : Book) (c : Change) → c.writes ≡ [] → MayIssue book c []
+issues_nothing book c none = record {
   alone = λ u m. absurd m;
   born = λ u m. absurd m;
   births = λ u m. absurd m;
-  logged = subst (λ (ws : List Written). Each (λ h. Member h.update (sc.issued ++ [])) (held_of ws)) (sym none) (λ h m. absurd m);
+  logged = subst (λ (ws : List Written). Each (λ h. Member h.update (book.issued ++ [])) (held_of ws)) (sym none) (λ h m. absurd m);
 }
 
-module _ (sc : Book) (s : State) (book : IsSoundBook sc) (state : IsSoundState sc s) where
-  settles : (call : Call) (c : Change) → IsSoundCall sc call → change_of s call ≡ Some c → Settles sc s (record { call = call; change = c })
-  settles (ToWrite w now) c is made = record { follows = (write_may_follow sc s w now state.last c ok).0; issued = (write_may_follow sc s w now state.last c ok).1; content = left.0; leaves = left.1; normal = subst (λ (d : Change). d.mode ≡ Normal) change refl }
+module _ (book : Book) (s : State) (sound_book : IsSoundBook book) (state : IsSoundState book s) where
+  settles : (call : Call) (c : Change) → IsSoundCall book call → change_of s call ≡ Some c → Settles book s (record { call = call; change = c })
+  settles (ToWrite w now) c is made = record { follows = (write_may_follow book s w now state.last c ok).0; issued = (write_may_follow book s w now state.last c ok).1; content = left.0; leaves = left.1; normal = subst (λ (d : Change). d.mode ≡ Normal) change refl }
     where
       ok : write s w now ≡ Ok c
       ok = in_change (write s w now) c made
@@ -51,8 +51,8 @@ module _ (sc : Book) (s : State) (book : IsSoundBook sc) (state : IsSoundState s
       change : own_change s (items_written s w now) ≡ c
       change = (answered (write_refusal s w) (own_change s (items_written s w now)) c ok).1
 
-      left : MayIssue sc c (issued_by (ToWrite w now) c) × Leaves sc s (record { call = ToWrite w now; change = c })
-      left = write_leaves_sound sc s w now c book state is ok
+      left : MayIssue book c (issued_by (ToWrite w now) c) × Leaves book s (record { call = ToWrite w now; change = c })
+      left = write_leaves_sound book s w now c sound_book state is ok
   settles (ToTake r) c is made = record { follows = left.0; issued = λ u m. absurd m; content = left.1.0; leaves = left.1.1; normal = subst (λ (d : Change). d.mode ≡ Normal) change refl }
     where
       ok : take s r ≡ Ok c
@@ -61,9 +61,9 @@ module _ (sc : Book) (s : State) (book : IsSoundBook sc) (state : IsSoundState s
       change : taken_change s r (take_items s r.items) ≡ c
       change = (answered (take_refusal s r (take_items s r.items) (after s (taken_change s r (take_items s r.items)))) (taken_change s r (take_items s r.items)) c ok).1
 
-      left : Follows (last_of sc s.inv) c × (MayIssue sc c [] × Leaves sc s (record { call = ToTake r; change = c }))
-      left = taken_leaves sc s r c book state is ok
-  settles (ToCollect now lifetime) c is made = record { follows = left.0; issued = λ u m. absurd m; content = issues_nothing sc c (subst (λ (d : Change). d.writes ≡ []) change refl); leaves = left.1; normal = subst (λ (d : Change). d.mode ≡ Normal) change refl }
+      left : Follows (last_of book s.inv) c × (MayIssue book c [] × Leaves book s (record { call = ToTake r; change = c }))
+      left = taken_leaves book s r c sound_book state is ok
+  settles (ToCollect now lifetime) c is made = record { follows = left.0; issued = λ u m. absurd m; content = issues_nothing book c (subst (λ (d : Change). d.writes ≡ []) change refl); leaves = left.1; normal = subst (λ (d : Change). d.mode ≡ Normal) change refl }
     where
       ok : collect s now lifetime ≡ Ok c
       ok = in_change (collect s now lifetime) c made
@@ -71,9 +71,9 @@ module _ (sc : Book) (s : State) (book : IsSoundBook sc) (state : IsSoundState s
       change : collection s (deaths_to_collect s now lifetime) ≡ c
       change = (answered (collect_refusal s (collection s (deaths_to_collect s now lifetime))) (collection s (deaths_to_collect s now lifetime)) c ok).1
 
-      left : Follows (last_of sc s.inv) c × Leaves sc s (record { call = ToCollect now lifetime; change = c })
-      left = collection_leaves sc s now lifetime c book state ok
-  settles ToUpgrade c is made = record { follows = left.0; issued = λ u m. absurd m; content = issues_nothing sc c (subst (λ (d : Change). d.writes ≡ []) change refl); leaves = left.1; normal = subst (λ (d : Change). d.mode ≡ Normal) change refl }
+      left : Follows (last_of book s.inv) c × Leaves book s (record { call = ToCollect now lifetime; change = c })
+      left = collection_leaves book s now lifetime c sound_book state ok
+  settles ToUpgrade c is made = record { follows = left.0; issued = λ u m. absurd m; content = issues_nothing book c (subst (λ (d : Change). d.writes ≡ []) change refl); leaves = left.1; normal = subst (λ (d : Change). d.mode ≡ Normal) change refl }
     where
       ok : upgrade s ≡ Ok c
       ok = in_change (upgrade s) c made
@@ -81,17 +81,17 @@ module _ (sc : Book) (s : State) (book : IsSoundBook sc) (state : IsSoundState s
       change : upgraded s ≡ c
       change = (answered (upgrade_refusal s) (upgraded s) c ok).1
 
-      left : Follows (last_of sc s.inv) c × Leaves sc s (record { call = ToUpgrade; change = c })
-      left = upgrade_leaves sc s c book state ok
+      left : Follows (last_of book s.inv) c × Leaves book s (record { call = ToUpgrade; change = c })
+      left = upgrade_leaves book s c sound_book state ok
   settles ToQuarantine c is made = absurd is
 
-  pub call_settles : (p : Pending) → IsSoundCall sc p.call → change_of s p.call ≡ Some p.change → Settles sc s p
+  pub call_settles : (p : Pending) → IsSoundCall book p.call → change_of s p.call ≡ Some p.change → Settles book s p
   call_settles p is made = settles p.call p.change is made
 
-  pub may_settle : (r : Replica) (p : Pending) → r.safe ≡ s → Settles sc s p → MaySettle sc r p
-  may_settle r p same is = subst (λ (d : State). MaySettle sc (record r { safe = d }) p) (sym same) (record {
+  pub may_settle : (r : Replica) (p : Pending) → r.safe ≡ s → Settles book s p → MaySettle book r p
+  may_settle r p same is = subst (λ (d : State). MaySettle book (record r { safe = d }) p) (sym same) (record {
     follows = is.follows;
     issued = is.issued;
     content = is.content;
-    state = sound_state_is_left sc s p book state is.follows is.issued is.leaves;
+    state = sound_state_is_left book s p sound_book state is.follows is.issued is.leaves;
   })

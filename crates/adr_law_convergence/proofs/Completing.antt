@@ -11,7 +11,7 @@ use Rattle.adr_vector.specs.declared.mark.Mark.{Mark}
 use Rattle.adr_model.specs.Member.{Member, Each}
 use Rattle.adr_model.specs.Update.{Identifier, Update}
 use Rattle.adr_model.specs.Reflects.{knowledge_of, Reflects}
-use Rattle.adr_model.specs.Store.{Held, Kept, State, updates_of, kept_of, mark_of}
+use Rattle.adr_model.specs.Store.{Held, PartnerMark, State, updates_of, kept_of, mark_of}
 use Rattle.adr_model.specs.LocalLog.{rows_at}
 use Rattle.adr_model.specs.Serve.{Reply, last_local, units_of}
 use Rattle.adr_model.specs.Replica.{Replica, log_of}
@@ -132,7 +132,7 @@ module _ (w v : World) (dest source : Name) (d s : Replica) (goes : Goes w v des
     -- the last reply
     pub done : (W : Cursors) → r.last ≡ Some W → HasTakenAll w.book.issued d.safe s.safe n.safe
     done W last = record {
-      mark = kept_as w v dest source d s goes most ∙ ap (λ (m : Mark). let k : Kept = record { inv = s.safe.inv; mark = m } in k) t.0;
+      mark = kept_as w v dest source d s goes most ∙ ap (λ (m : Mark). let k : PartnerMark = record { inv = s.safe.inv; mark = m } in k) t.0;
       took = all_read t.0;
       keeps = keeps w v dest source d s goes most ok;
       gained = gained w v dest source d s goes most ok;

@@ -12,8 +12,8 @@ use Rattle.adr_model.specs.Convergence.{held_by, HoldsNothingBeyond, CoverTheSam
 use Rattle.adr_law_knowledge.specs.Known.{CoverAlike, IsSoundKnowledge}
 use Rattle.adr_law_knowledge.proofs.View.{covered_where_tested, tested_where_covered, covered_is_visible, formed_is_sound, held_shows_visible, equal_coverage}
 
-pub store_is_sound : (sc : Book) (s : Store) → IsSoundStore sc s → IsSoundKnowledge sc.issued (knowledge_of s)
-store_is_sound sc s is = formed_is_sound sc.issued s is.formed is.known is.covered
+pub store_is_sound : (book : Book) (s : Store) → IsSoundStore book s → IsSoundKnowledge book.issued (knowledge_of s)
+store_is_sound book s is = formed_is_sound book.issued s is.formed is.known is.covered
 
 pub replica_is_sound : (w : World) (r : Replica) → IsSoundWorld w → Member r w.replicas → IsSoundKnowledge w.book.issued (knowledge_of r.safe.store)
 replica_is_sound w r sound m = store_is_sound w.book r.safe.store (sound.replicas r m).safe.store
@@ -21,10 +21,10 @@ replica_is_sound w r sound m = store_is_sound w.book r.safe.store (sound.replica
 pub shows_what_is_visible : ShowsWhatIsVisible
 shows_what_is_visible w sound r m = held_shows_visible w.book.issued r.safe.store sound.book.one_content (replica_is_sound w r sound m)
 
-own_covered : (sc : Book) (s : State) (u : Update) → IsSoundBook sc → IsSoundState sc s → Member u sc.issued → inv_of u ≡ s.inv → Covers (at s.store.vector) u
-own_covered sc s u book is m own =
-    let once : usn_of u ≤ last_of sc (inv_of u) = (book.once u m).1 in
-    let last : last_of sc (inv_of u) ≡ last_of sc s.inv = ap (last_of sc) own in
+own_covered : (book : Book) (s : State) (u : Update) → IsSoundBook book → IsSoundState book s → Member u book.issued → inv_of u ≡ s.inv → Covers (at s.store.vector) u
+own_covered book s u sound_book is m own =
+    let once : usn_of u ≤ last_of book (inv_of u) = (sound_book.once u m).1 in
+    let last : last_of book (inv_of u) ≡ last_of book s.inv = ap (last_of book) own in
     let here : at s.store.vector (inv_of u) ≡ at s.store.vector s.inv = ap (at s.store.vector) own in
     omega (arith, once, last, here, is.last, is.formed.own)
 

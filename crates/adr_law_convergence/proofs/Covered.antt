@@ -130,14 +130,14 @@ module _ (w : World) where
     requests_stay : Each (λ (q : Name × Request). Member q w.requests ⊎ IsGrown w q.1.vector) w.requests
     requests_stay q m = inl m
 
-    pub placed : (sc : Book) (new : Replica) → BothCome new → IsPurgedCovered (record w { book = sc; replicas = with_replica w.replicas new })
-    placed sc new comes = followed w (record w { book = sc; replicas = with_replica w.replicas new }) (follows (record w { book = sc; replicas = with_replica w.replicas new }) each images_come requests_stay)
+    pub placed : (book : Book) (new : Replica) → BothCome new → IsPurgedCovered (record w { book = book; replicas = with_replica w.replicas new })
+    placed book new comes = followed w (record w { book = book; replicas = with_replica w.replicas new }) (follows (record w { book = book; replicas = with_replica w.replicas new }) each images_come requests_stay)
       where
         each : Each BothCome (with_replica w.replicas new)
         each q m = ⊎_elim (λ e. subst BothCome (sym e) comes) (λ t. both_come q t.0) (in_place w.replicas new q m)
 
-    pub joining : (sc : Book) (new : Replica) → BothCome new → IsPurgedCovered (record w { book = sc; replicas = w.replicas ++ new ∷ [] })
-    joining sc new comes = followed w (record w { book = sc; replicas = w.replicas ++ new ∷ [] }) (follows (record w { book = sc; replicas = w.replicas ++ new ∷ [] }) each images_come requests_stay)
+    pub joining : (book : Book) (new : Replica) → BothCome new → IsPurgedCovered (record w { book = book; replicas = w.replicas ++ new ∷ [] })
+    joining book new comes = followed w (record w { book = book; replicas = w.replicas ++ new ∷ [] }) (follows (record w { book = book; replicas = w.replicas ++ new ∷ [] }) each images_come requests_stay)
       where
         each : Each BothCome (w.replicas ++ new ∷ [])
         each q m = by (member_of_either w.replicas (new ∷ []) q m)

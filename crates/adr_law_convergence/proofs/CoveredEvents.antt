@@ -8,7 +8,7 @@ use Rattle.adr_event.specs.declared.event.Event.TheVariants as events
 use Rattle.adr_model.specs.Store.{Store}
 use Rattle.adr_model.specs.Serve.{Request, Reply}
 use Rattle.adr_model.specs.Write.{write_meant, Revive}
-use Rattle.adr_model.specs.Replica.{Stops, Fails}
+use Rattle.adr_disk.specs.declared.memory.Mishap.TheVariants.{Fails, Stops}
 use Rattle.adr_model.specs.World.{Name, World, Snapshot, Sent, nothing, bound_at, asks, serves_request, delivers, reported}
 use Rattle.adr_model.specs.Cycles.{pulls, reply_limit, pull_version}
 use Rattle.adr_model.specs.Step.{gives, step, revival, stepped}
@@ -72,8 +72,8 @@ event_covered w covered (events.Install name dsa image inv) may keeps clean = in
 event_covered w covered (events.Snapshot name bind) may keeps clean =
     let c = made_case (λ (t : Sent Snapshot). IsPurgedCovered t.0) w name (nothing w) (λ x. covered) (λ r. (w, outcomes.Ok, Some (record { state = r.read; log = r.device.read_log }))) (λ r is. covered) in record { stores = c.stores; requests = c.requests }
 event_covered w covered (events.Rollback name snapshot) may keeps clean = put_back_covered w covered name (bound_at w.snapshots snapshot) clean
-event_covered w covered (events.StopAfter name calls how) may keeps clean = plans_covered w covered name (record { calls = calls; fault = Stops how })
-event_covered w covered (events.Fail name calls) may keeps clean = plans_covered w covered name (record { calls = calls; fault = Fails })
+event_covered w covered (events.StopAfter name calls how) may keeps clean = plans_covered w covered name (record { calls = calls; mishap = Stops how })
+event_covered w covered (events.Fail name calls) may keeps clean = plans_covered w covered name (record { calls = calls; mishap = Fails })
 event_covered w covered (events.Stop name) may keeps clean = stops_covered w covered name
 event_covered w covered (events.Start name) may keeps clean = starts_covered w covered name
 event_covered w covered (events.Report name what) may keeps clean = reports_covered w covered name (λ r. reported w r.safe what)

@@ -20,7 +20,8 @@ use Rattle.adr_model.specs.Take.{take_items, taken_change, take_refusal, take}
 use Rattle.adr_model.specs.Collect.{collection, deaths_to_collect, collect_refusal, collect, backup, adopt, quarantine}
 use Rattle.adr_model.specs.Lengths.{new_log, area_fits, change_fits}
 use Rattle.adr_model.specs.Refused.{serve_refused, take_refused, quarantined}
-use Rattle.adr_model.specs.Replica.{Pending, ToWrite, ToTake, ToCollect, ToUpgrade, ToQuarantine, Standing, Up, Down, Failed, Plan, Replica, on_new_disk, Book, begun, Settle, moved, moves_of_commit, moves_of_start, standing_after, Device, commit_goes, start_goes, device_after_commit, device_after_start, device_settled}
+use Rattle.adr_disk.specs.declared.memory.Plan.{Plan}
+use Rattle.adr_model.specs.Replica.{Pending, ToWrite, ToTake, ToCollect, ToUpgrade, ToQuarantine, Standing, Up, Down, Failed, Replica, on_new_disk, Book, begun, Settle, moved, moves_of_commit, moves_of_start, standing_after, Device, commit_goes, start_goes, device_after_commit, device_after_start, device_settled}
 use Rattle.adr_model.specs.World.{Name, World, Snapshot, Gone, Sent, stays, nothing, bound, bound_at, replica_at, with_replica, of_made, of_controller, committed, commit, quarantines, after_write, writes, after_collect, asks, after_serve, served, serves_request, after_take, delivered, delivers, backed_up, adopts, of_image, put_back, with_plan, stops, starts, shown, after_upgrade}
 use Rattle.adr_model.specs.Step.{gives, step}
 use Rattle.adr_model.specs.Convergence.{IsStoreOf, IsPurgedCovered, KeepsCovered}

@@ -1,8 +1,9 @@
 -- A start that wants memory once its sync was made.
 use Rattle.std.proofs.Common.{◌≢◌, inr, fold}
-use Rattle.adr_disk.specs.declared.memory.Crash.TheVariants.{Kept as KeptAll, Lost, Torn}
+use Rattle.adr_disk.specs.declared.memory.Crash.TheVariants.{Kept, Lost, Torn}
 use Rattle.adr_model.specs.Member.{Member}
-use Rattle.adr_model.specs.Replica.{Stops, Fails, Up, Replica, moved, Went, Passed, Met, moves_of_start, start_goes, device_after_start}
+use Rattle.adr_disk.specs.declared.memory.Mishap.TheVariants.{Fails, Stops}
+use Rattle.adr_model.specs.Replica.{Up, Replica, moved, Went, Passed, Met, moves_of_start, start_goes, device_after_start}
 use Rattle.adr_model.specs.World.{World}
 use Rattle.adr_model.specs.Sound.{IsTraced, IsSoundWorld}
 use Rattle.adr_law_convergence.specs.CutShort.{StartsCutShort}
@@ -16,7 +17,7 @@ module _ (w : World) (r : Replica) (there : Member r w.replicas) (not_up : r.sta
   cut_moves s (Passed left) = settles_so (IsTraced w) w.book r s.book (s.replicas r there) (s.identifiers.stores r there) (s.normal r there) r.standing
   cut_moves s (Met place Fails) = stays_so (IsTraced w) w.book r s.book (s.replicas r there) (s.identifiers.stores r there) (s.normal r there) r.standing (inr not_up)
   cut_moves s (Met place (Stops Lost)) = forgets (IsTraced w) w.book r s.book (s.replicas r there) (s.identifiers.stores r there) (s.normal r there) r.standing
-  cut_moves s (Met place (Stops KeptAll)) = settles_so (IsTraced w) w.book r s.book (s.replicas r there) (s.identifiers.stores r there) (s.normal r there) r.standing
+  cut_moves s (Met place (Stops Kept)) = settles_so (IsTraced w) w.book r s.book (s.replicas r there) (s.identifiers.stores r there) (s.normal r there) r.standing
   cut_moves s (Met place (Stops Torn)) = settles_so (IsTraced w) w.book r s.book (s.replicas r there) (s.identifiers.stores r there) (s.normal r there) r.standing
 
 pub cut_short_sound : StartsCutShort

@@ -22,7 +22,10 @@ use Rattle.adr_model.specs.Take.{take_items, taken_change, take}
 use Rattle.adr_call.specs.declared.refusal.Table.TheVariants.{Log as log_table}
 use Rattle.adr_model.specs.Lengths.{Log, log_limit, change_fits, is_due, log_before, next_log}
 use Rattle.adr_model.specs.Refused.{usn_limited, full, full_fields}
-use Rattle.adr_model.specs.Replica.{Pending, ToTake, Up, Fault, Stops, Fails, Plan, Replica, recorded, moved, Went, Passed, Met, went, moves_of_commit, standing_after, outcome_after, Failed, calls_before, recorded_on, checkpointed_on, behind as behind_calls, commit_goes, device_after_commit}
+use Rattle.adr_disk.specs.declared.memory.Mishap.{Mishap}
+use Rattle.adr_disk.specs.declared.memory.Mishap.TheVariants.{Fails, Stops}
+use Rattle.adr_disk.specs.declared.memory.Plan.{Plan}
+use Rattle.adr_model.specs.Replica.{Pending, ToTake, Up, Replica, recorded, moved, Went, Passed, Met, went, moves_of_commit, standing_after, outcome_after, Failed, calls_before, recorded_on, checkpointed_on, behind as behind_calls, commit_goes, device_after_commit}
 use Rattle.adr_model.specs.World.{Name, World, Gone, answer, replica_at, with_replica, of_made, where_up, nothing, stays, asks, rows_in, after_serve, served, serves_request, committed, commit, after_take, delivered, delivers, noted}
 use Rattle.adr_model.specs.Cycles.{Pulled, first_told, pull_delivered, pull_served, pull_asked, pull, pull_version}
 use Rattle.adr_model.specs.Sound.{last_of, IsSoundState, IsSoundReply, IsSent, IsSoundWorld}
@@ -225,7 +228,7 @@ module _ (w v : World) (dest source : Name) (d s : Replica) (goes : Goes w v des
   pub taken_or_met : Takes ⊎ (MeetsLimit ⊎ MeetsFault)
   taken_or_met = ⊎_elim (λ ok. by has_room refl ok) (λ t. inr (inl (refused t.0 t.1 t.2))) (taken_or_limited v.book d.safe s.safe most v.time goes.sound.book d_safe s_safe d_normal s_normal goes.schema goes.purged)
     where
-      meets : {place : ℕ} {fault : Fault} → Passes → commit_goes d pending ≡ Met place fault → ⊥
+      meets : {place : ℕ} {mishap : Mishap} → Passes → commit_goes d pending ≡ Met place mishap → ⊥
       meets p e = let both = sym p.1 ∙ e in absurd (cc)
 
       on : (g : Went) → commit_goes d pending ≡ g → take d.safe reply ≡ Ok change → has_room ≡ true → Takes ⊎ (MeetsLimit ⊎ MeetsFault)

@@ -9,7 +9,8 @@ use Rattle.adr_model.specs.Member.{Member, Each}
 use Rattle.adr_model.specs.Store.{Store, State}
 use Rattle.adr_model.specs.Write.{write_meant, Revive}
 use Rattle.adr_model.specs.Collect.{adopt}
-use Rattle.adr_model.specs.Replica.{Pending, issued_by, Standing, Stops, Fails, Replica, on_new_disk, Book, begun, Move, Begin, Settle, Forget, moved, Device}
+use Rattle.adr_disk.specs.declared.memory.Mishap.TheVariants.{Fails, Stops}
+use Rattle.adr_model.specs.Replica.{Pending, issued_by, Standing, Replica, on_new_disk, Book, begun, Move, Begin, Settle, Forget, moved, Device}
 use Rattle.adr_model.specs.World.{Name, World, Snapshot, Gone, Sent, stays, nothing, bound_at, with_replica, begins, adopts, of_image, put_back, after_moves, reported}
 use Rattle.adr_model.specs.Cycles.{pulls, reply_limit, pull_version}
 use Rattle.adr_model.specs.Step.{gives, step}
@@ -130,8 +131,8 @@ module _ (w : World) where
   step_keeps (events.Snapshot name bind) =
       let k = made_case (KeptBy false w) w name (nothing w) (λ o. same false w) (λ r. (w, outcomes.Ok, Some (record { state = r.read; log = r.device.read_log }))) (λ r called. same false w) in record { issued = k.issued; unclean = k.unclean; alike = k.alike }
   step_keeps (events.Rollback name snapshot) = made_case (Kept true w) w name (stays w) (λ o. same true w) (λ r. put_back w name (bound_at w.snapshots snapshot)) (λ r called. put_back_keeps w name (bound_at w.snapshots snapshot))
-  step_keeps (events.StopAfter name calls how) = plans_so Q AnyCall w here name (record { calls = calls; fault = Stops how })
-  step_keeps (events.Fail name calls) = plans_so Q AnyCall w here name (record { calls = calls; fault = Fails })
+  step_keeps (events.StopAfter name calls how) = plans_so Q AnyCall w here name (record { calls = calls; mishap = Stops how })
+  step_keeps (events.Fail name calls) = plans_so Q AnyCall w here name (record { calls = calls; mishap = Fails })
   step_keeps (events.Stop name) = stops_so Q AnyCall w here name
   step_keeps (events.Start name) = starts_so Q AnyCall w here name
   step_keeps (events.Report name what) = reports_so Q AnyCall w here name (λ r. reported w r.safe what)

@@ -15,7 +15,8 @@ use Rattle.adr_model.specs.Lengths.{new_log, area_fits}
 use Rattle.adr_model.specs.Serve.{Request, Reply, is_quarantined, serve}
 use Rattle.adr_model.specs.Write.{Write, write_meant, Revive}
 use Rattle.adr_model.specs.Collect.{adopt, backup}
-use Rattle.adr_model.specs.Replica.{Standing, Up, Down, Failed, Stops, Fails, Replica, on_disk, on_new_disk, Book, begun, Move, Settle, moved, Went, Met, moves_of_commit, moves_of_start, standing_after, Device, commit_goes, start_goes, device_after_commit, device_after_start, device_settled}
+use Rattle.adr_disk.specs.declared.memory.Mishap.TheVariants.{Fails, Stops}
+use Rattle.adr_model.specs.Replica.{Standing, Up, Down, Failed, Replica, on_disk, on_new_disk, Book, begun, Move, Settle, moved, Went, Met, moves_of_commit, moves_of_start, standing_after, Device, commit_goes, start_goes, device_after_commit, device_after_start, device_settled}
 use Rattle.adr_model.specs.World.{Name, World, Given, LastReply, Snapshot, Gone, Sent, stays, nothing, noted, bound, bound_at, replica_at, with_replica, of_made, of_controller, writes, asks, after_serve, served, serves_request, delivers, backed_up, adopts, of_image, put_back, after_moves, reported}
 use Rattle.adr_model.specs.Cycles.{pulls, reply_limit, pull_version}
 use Rattle.adr_model.specs.Step.{gives, step, stepped, revival}
@@ -119,8 +120,8 @@ module _ (w : World) (is : IsOrderlyWorld w) where
       as_given s o = record { dsa = subst (λ (g : Given). Member s.dsa g.dsas) (sym given) o.dsa; inv = subst (λ (g : Given). Member s.inv g.invs) (sym given) o.inv; formed = o.formed; store = o.store }
 
   -- with other controllers
-  pub moved_on : (sc : Book) (rs : List Replica) → AreOrderly w rs → IsOrderlyWorld (record w { book = sc; replicas = rs })
-  moved_on sc rs are = of_parts (record w { book = sc; replicas = rs }) refl are is.replies is.images is.snapshots is.bound_requests is.bound_replies is.bound_images is.bound_snapshots
+  pub moved_on : (book : Book) (rs : List Replica) → AreOrderly w rs → IsOrderlyWorld (record w { book = book; replicas = rs })
+  moved_on book rs are = of_parts (record w { book = book; replicas = rs }) refl are is.replies is.images is.snapshots is.bound_requests is.bound_replies is.bound_images is.bound_snapshots
 
   pub at_time : (now : ℕ) → IsOrderlyWorld (record w { time = now })
   at_time now = of_parts (record w { time = now }) refl here is.replies is.images is.snapshots is.bound_requests is.bound_replies is.bound_images is.bound_snapshots
@@ -343,8 +344,8 @@ module _ (w : World) (is : IsOrderlyWorld w) where
       (copied w is bind (of_made (nothing w) (replica_at w name) (λ r. (w, outcomes.Ok, Some (record { state = r.read; log = r.device.read_log })))).2 may (copies name).1)
   step_orderly (events.Rollback name snapshot) may = made_case (λ (g : Gone). IsOrderlyWorld g.0) w name (stays w) (λ x. is) (λ r. put_back w name (bound_at w.snapshots snapshot))
       (λ r called. rolled_back w is name (bound_at w.snapshots snapshot) (λ s e. bound_member (IsOrderlySnapshot w) w.snapshots snapshot s is.snapshots e))
-  step_orderly (events.StopAfter name calls how) may = behind_call w is _ (plans_so Q IsGivenCall w keeps name (record { calls = calls; fault = Stops how }))
-  step_orderly (events.Fail name calls) may = behind_call w is _ (plans_so Q IsGivenCall w keeps name (record { calls = calls; fault = Fails }))
+  step_orderly (events.StopAfter name calls how) may = behind_call w is _ (plans_so Q IsGivenCall w keeps name (record { calls = calls; mishap = Stops how }))
+  step_orderly (events.Fail name calls) may = behind_call w is _ (plans_so Q IsGivenCall w keeps name (record { calls = calls; mishap = Fails }))
   step_orderly (events.Stop name) may = behind_call w is _ (stops_so Q IsGivenCall w keeps name)
   step_orderly (events.Start name) may = behind_call w is _ (starts_so Q IsGivenCall w keeps name)
   step_orderly (events.Report name what) may = behind_call w is _ (reports_so Q IsGivenCall w keeps name (λ r. reported w r.safe what))

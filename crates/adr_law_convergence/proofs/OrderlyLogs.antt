@@ -3,11 +3,14 @@ use Rattle.std.proofs.Common.{◌≡◌, ◌≢◌, ◌≤◌, ◌<◌, ⊎_elim
 use Rattle.std.specs.Prelude.{nat_le, nat_lt}
 use Rattle.std.proofs.lemmas.Bool.{and_parts, cases_lt, leb-true}
 use Rattle.std.proofs.lemmas.Bool.Decides.{nat_tests}
-use Rattle.adr_disk.specs.declared.memory.Crash.TheVariants.{Kept as KeptAll, Lost, Torn}
+use Rattle.adr_disk.specs.declared.memory.Crash.TheVariants.{Kept, Lost, Torn}
 use Rattle.adr_model.specs.Store.{Store, State}
 use Rattle.adr_model.specs.Change.{Change}
 use Rattle.adr_model.specs.Lengths.{Log, log_limit, length_limit, new_log, image_length, change_length, log_after, is_due, checkpointed, next_log, area_fits, change_fits}
-use Rattle.adr_model.specs.Replica.{Pending, Fault, Stops, Fails, Plan, Device, Replica, Went, Passed, Met, went, plan_after, behind, logs_of_record, logs_of_checkpoint, recorded_on, checkpointed_on, commit_goes, device_after_commit}
+use Rattle.adr_disk.specs.declared.memory.Mishap.{Mishap}
+use Rattle.adr_disk.specs.declared.memory.Mishap.TheVariants.{Fails, Stops}
+use Rattle.adr_disk.specs.declared.memory.Plan.{Plan}
+use Rattle.adr_model.specs.Replica.{Pending, Device, Replica, Went, Passed, Met, went, plan_after, behind, logs_of_record, logs_of_checkpoint, recorded_on, checkpointed_on, commit_goes, device_after_commit}
 use Rattle.adr_model.specs.Sound.{IsOrderlyLog}
 
 -- both logs are orderly. Behind calls that pass they are one, and where the last call of the record fails, the found one has the record beyond the safe one
@@ -43,18 +46,18 @@ module _ (c : Change) where
       by true e = record { safe_log = is; read_log = new; one = λ left passed. absurd (cc); begun = λ same. refl }
       by false e = one_log (Met place Fails) l None is (λ same. let third : place ≡ 3 = cc in let tested : (3 == 3) ≡ false = subst (λ (n : ℕ). (n == 3) ≡ false) third e in absurd (cc))
   record_leads l is new (Met place (Stops Lost)) = one_log (Met place (Stops Lost)) l None is (λ e. absurd (cc))
-  record_leads l is new (Met place (Stops KeptAll)) = one_log (Met place (Stops KeptAll)) (if nat_le 2 place then log_after l c else l) None (which (nat_le 2 place) l (log_after l c) is new) (λ e. absurd (cc))
+  record_leads l is new (Met place (Stops Kept)) = one_log (Met place (Stops Kept)) (if nat_le 2 place then log_after l c else l) None (which (nat_le 2 place) l (log_after l c) is new) (λ e. absurd (cc))
   record_leads l is new (Met place (Stops Torn)) = one_log (Met place (Stops Torn)) (if nat_le 2 place then log_after l c else l) None (which (nat_le 2 place) l (log_after l c) is new) (λ e. absurd (cc))
 
   -- the five calls of a checkpoint, which meet a fault before the record
-  checkpoint_leads : (l mid : Log) → IsOrderlyLog l → IsOrderlyLog mid → (place at : ℕ) (fault : Fault) → at ≡ 0 → LogsLead c (Met at fault) (left_with (logs_of_checkpoint l mid (Met place fault)) (Met place fault))
+  checkpoint_leads : (l mid : Log) → IsOrderlyLog l → IsOrderlyLog mid → (place at : ℕ) (mishap : Mishap) → at ≡ 0 → LogsLead c (Met at mishap) (left_with (logs_of_checkpoint l mid (Met place mishap)) (Met place mishap))
   checkpoint_leads l mid is new place at Fails before = by (place == 4)
     where
       by : (b : Bool) → LogsLead c (Met at Fails) (left_with (if b then (mid, l) else (l, l)) (Met place Fails))
       by true = record { safe_log = is; read_log = new; one = λ left e. absurd (cc); begun = λ e. let third : at ≡ 3 = cc in absurd (omega (arith, third, before)) }
       by false = one_log (Met at Fails) l None is (λ e. let third : at ≡ 3 = cc in absurd (omega (arith, third, before)))
   checkpoint_leads l mid is new place at (Stops Lost) before = one_log (Met at (Stops Lost)) l None is (λ e. absurd (cc))
-  checkpoint_leads l mid is new place at (Stops KeptAll) before = one_log (Met at (Stops KeptAll)) (if nat_le 3 place then mid else l) None (which (nat_le 3 place) l mid is new) (λ e. absurd (cc))
+  checkpoint_leads l mid is new place at (Stops Kept) before = one_log (Met at (Stops Kept)) (if nat_le 3 place then mid else l) None (which (nat_le 3 place) l mid is new) (λ e. absurd (cc))
   checkpoint_leads l mid is new place at (Stops Torn) before = one_log (Met at (Stops Torn)) (if nat_le 3 place && mid.second then mid else l) None (which (nat_le 3 place && mid.second) l mid is new) (λ e. absurd (cc))
 
 -- ---- nine calls as five and then four
@@ -68,22 +71,22 @@ meets calls n a b lt = grind (arith, nat_tests)
 module _ (p : Plan) where
   -- what is left of the plan
   abbrev later : ℕ → Option Plan
-  later n = Some (record { calls = p.calls - n; fault = p.fault })
+  later n = Some (record { calls = p.calls - n; mishap = p.mishap })
 
   passed : (n : ℕ) → n ≤ p.calls → went (Some p) n ≡ Passed (later n)
-  passed n le = passes p.calls n (Passed (later n)) (Met p.calls p.fault) le
+  passed n le = passes p.calls n (Passed (later n)) (Met p.calls p.mishap) le
 
-  met : (n : ℕ) → p.calls < n → went (Some p) n ≡ Met p.calls p.fault
-  met n lt = meets p.calls n (Passed (later n)) (Met p.calls p.fault) lt
+  met : (n : ℕ) → p.calls < n → went (Some p) n ≡ Met p.calls p.mishap
+  met n lt = meets p.calls n (Passed (later n)) (Met p.calls p.mishap) lt
 
   -- behind a checkpoint that passes the record's calls go as the last four of nine
   last_four : 5 ≤ p.calls → behind 5 (went (Some p) 9) ≡ went (later 5) 4
   last_four late = ⊎_elim
-      (λ (within : p.calls < 9). ap (behind 5) (met 9 within) ∙ sym (meets (p.calls - 5) 4 (Passed (Some (record { calls = p.calls - 5 - 4; fault = p.fault }))) (Met (p.calls - 5) p.fault) (omega (arith, within, late))))
+      (λ (within : p.calls < 9). ap (behind 5) (met 9 within) ∙ sym (meets (p.calls - 5) 4 (Passed (Some (record { calls = p.calls - 5 - 4; mishap = p.mishap }))) (Met (p.calls - 5) p.mishap) (omega (arith, within, late))))
       (λ (waits : 9 ≤ p.calls).
       let same : p.calls - 9 ≡ p.calls - 5 - 4 = omega arith in
-      ap (behind 5) (passed 9 waits) ∙ (ap (λ (n : ℕ). let g : Went = Passed (Some (record { calls = n; fault = p.fault })) in g) same
-      ∙ sym (passes (p.calls - 5) 4 (Passed (Some (record { calls = p.calls - 5 - 4; fault = p.fault }))) (Met (p.calls - 5) p.fault) (omega (arith, waits)))))
+      ap (behind 5) (passed 9 waits) ∙ (ap (λ (n : ℕ). let g : Went = Passed (Some (record { calls = n; mishap = p.mishap })) in g) same
+      ∙ sym (passes (p.calls - 5) 4 (Passed (Some (record { calls = p.calls - 5 - 4; mishap = p.mishap }))) (Met (p.calls - 5) p.mishap) (omega (arith, waits)))))
       (cases_lt p.calls 9)
 
 -- a commit behind a checkpoint
@@ -93,7 +96,7 @@ due_leads c l mid is begun new (Some p) = ⊎_elim early late (cases_lt p.calls 
   where
     early : p.calls < 5 → LogsLead c (behind 5 (went (Some p) 9)) (checkpointed_on l mid (log_after mid c) (went (Some p) 5))
     early lt = subst (λ (g : Went). LogsLead c (behind 5 g) (checkpointed_on l mid (log_after mid c) (went (Some p) 5))) (sym (met p 9 (omega (arith, lt))))
-        (subst (λ (g : Went). LogsLead c (Met (p.calls - 5) p.fault) (checkpointed_on l mid (log_after mid c) g)) (sym (met p 5 lt)) (checkpoint_leads c l mid is begun p.calls (p.calls - 5) p.fault (omega (arith, lt))))
+        (subst (λ (g : Went). LogsLead c (Met (p.calls - 5) p.mishap) (checkpointed_on l mid (log_after mid c) g)) (sym (met p 5 lt)) (checkpoint_leads c l mid is begun p.calls (p.calls - 5) p.mishap (omega (arith, lt))))
 
     late : 5 ≤ p.calls → LogsLead c (behind 5 (went (Some p) 9)) (checkpointed_on l mid (log_after mid c) (went (Some p) 5))
     late le = subst (λ (g : Went). LogsLead c g (checkpointed_on l mid (log_after mid c) (went (Some p) 5))) (sym (last_four p le))
@@ -102,7 +105,7 @@ due_leads c l mid is begun new (Some p) = ⊎_elim early late (cases_lt p.calls 
 -- a commit without a checkpoint
 none_behind : (g : Went) → behind 0 g ≡ g
 none_behind (Passed left) = refl
-none_behind (Met place fault) = let same : place - 0 ≡ place = omega arith in ap (λ (n : ℕ). Met n fault) same
+none_behind (Met place mishap) = let same : place - 0 ≡ place = omega arith in ap (λ (n : ℕ). Met n mishap) same
 
 plain_leads : (c : Change) (l : Log) → IsOrderlyLog l → IsOrderlyLog (log_after l c) → (plan : Option Plan) → LogsLead c (behind 0 (went plan 4)) (recorded_on l (log_after l c) plan)
 plain_leads c l is new plan = subst (λ (g : Went). LogsLead c g (recorded_on l (log_after l c) plan)) (sym (none_behind (went plan 4))) (record_leads c l is new (went plan 4))

@@ -1,7 +1,7 @@
 -- What calls and moves leave of orderly states and controllers.
 use Rattle.std.proofs.Common.{◌≡◌, ◌≢◌, inl, inr, ⊎_elim, ℕ, List, [], ◌∷◌, Bool, true, false, not, ◌&&◌, Option, Some, None, Ok, refl, sym, subst, fold, nat_le, ◌==◌, if◌then◌else◌}
 use Rattle.std.proofs.lemmas.Bool.{eqb-true}
-use Rattle.adr_disk.specs.declared.memory.Crash.TheVariants.{Kept as KeptAll, Lost, Torn}
+use Rattle.adr_disk.specs.declared.memory.Crash.TheVariants.{Kept, Lost, Torn}
 use Rattle.adr_model.specs.Member.{Member}
 use Rattle.adr_model.specs.Update.{Identifier}
 use Rattle.adr_model.specs.Store.{Normal, Store, State}
@@ -14,7 +14,9 @@ use Rattle.adr_model.specs.Write.{write}
 use Rattle.adr_model.specs.Take.{take}
 use Rattle.adr_model.specs.Collect.{collect, adopt, woken, quarantine}
 use Rattle.adr_model.specs.Upgrade.{upgrade}
-use Rattle.adr_model.specs.Replica.{Call, ToWrite, ToTake, ToCollect, ToUpgrade, ToQuarantine, change_of, Pending, Stops, Fails, Plan, Standing, Up, Down, Failed, Device, Replica, on_disk, Book, Move, Begin, Settle, Forget, moved, Went, Passed, Met, moves_of_commit, moves_of_start, standing_after, plan_after, torn_log, logs_of_start, commit_goes, device_after_commit, device_settled}
+use Rattle.adr_disk.specs.declared.memory.Mishap.TheVariants.{Fails, Stops}
+use Rattle.adr_disk.specs.declared.memory.Plan.{Plan}
+use Rattle.adr_model.specs.Replica.{Call, ToWrite, ToTake, ToCollect, ToUpgrade, ToQuarantine, change_of, Pending, Standing, Up, Down, Failed, Device, Replica, on_disk, Book, Move, Begin, Settle, Forget, moved, Went, Passed, Met, moves_of_commit, moves_of_start, standing_after, plan_after, torn_log, logs_of_start, commit_goes, device_after_commit, device_settled}
 use Rattle.adr_model.specs.World.{Name, World}
 use Rattle.adr_model.specs.Sound.{IsOrderlyStore, IsOrderlyState, IsOrderlyLog, IsSettled, IsOrderlyReplica}
 use Rattle.adr_law_logs.proofs.Woken.{adopted_is_woken}
@@ -89,9 +91,9 @@ module _ (w : World) where
   abbrev pub Leaves : Book × Replica → Standing → Device → Type 0
   Leaves m standing device = IsOrderlyReplica w (record m.1 { standing = standing; device = device })
 
-  module _ (sc : Book) (r : Replica) (is : IsOrderlyReplica w r) where
+  module _ (book : Book) (r : Replica) (is : IsOrderlyReplica w r) where
     -- no move, and no other log
-    stays_orderly : (standing : Standing) (plan : Option Plan) → (standing ≡ Up → r.standing ≡ Up) → Leaves (sc, r) standing (record r.device { plan = plan })
+    stays_orderly : (standing : Standing) (plan : Option Plan) → (standing ≡ Up → r.standing ≡ Up) → Leaves (book, r) standing (record r.device { plan = plan })
     stays_orderly standing plan up = record {
       safe = is.safe;
       read = is.read;
@@ -103,17 +105,17 @@ module _ (w : World) where
     }
 
     -- both states are the one that was found, in one log
-    settles_orderly : (standing : Standing) (log : Log) (plan : Option Plan) → IsOrderlyLog log → Leaves (moved (sc, r) Settle) standing (record { read_log = log; safe_log = log; plan = plan })
+    settles_orderly : (standing : Standing) (log : Log) (plan : Option Plan) → IsOrderlyLog log → Leaves (moved (book, r) Settle) standing (record { read_log = log; safe_log = log; plan = plan })
     settles_orderly standing log plan fits = record { safe = is.read; read = is.read; safe_log = fits; read_log = fits; up = λ e. (refl, refl); up_log = λ e. refl; settled = inl (refl, refl) }
 
     -- both states are the one that was safe, in one log
-    forgets_orderly : (standing : Standing) (log : Log) (plan : Option Plan) → IsOrderlyLog log → Leaves (moved (sc, r) Forget) standing (record { read_log = log; safe_log = log; plan = plan })
+    forgets_orderly : (standing : Standing) (log : Log) (plan : Option Plan) → IsOrderlyLog log → Leaves (moved (book, r) Forget) standing (record { read_log = log; safe_log = log; plan = plan })
     forgets_orderly standing log plan fits = record { safe = is.safe; read = is.safe; safe_log = fits; read_log = fits; up = λ e. (refl, refl); up_log = λ e. refl; settled = inl (refl, refl) }
 
-    pub plan_orderly : (plan : Option Plan) → Leaves (sc, r) r.standing (record r.device { plan = plan })
+    pub plan_orderly : (plan : Option Plan) → Leaves (book, r) r.standing (record r.device { plan = plan })
     plan_orderly plan = stays_orderly r.standing plan (λ up. up)
 
-    pub stop_orderly : Leaves (moved (sc, r) Settle) Down (device_settled r)
+    pub stop_orderly : Leaves (moved (book, r) Settle) Down (device_settled r)
     stop_orderly = settles_orderly Down r.device.read_log None is.read_log
 
     torn_orderly : (b : Bool) → IsOrderlyLog (if b then r.device.safe_log else r.device.read_log)
@@ -124,45 +126,45 @@ module _ (w : World) where
     started_on g = record { read_log = (logs_of_start r.device.read_log r.device.safe_log g).0; safe_log = (logs_of_start r.device.read_log r.device.safe_log g).1; plan = plan_after g }
 
     -- the moves of a start, however the controller stands then, but not up where the start failed
-    pub start_orderly : (g : Went) (standing : Standing) → ((place : ℕ) → g ≡ Met place Fails → standing ≢ Up) → Leaves (fold moved (sc, r) (moves_of_start g)) standing (started_on g)
+    pub start_orderly : (g : Went) (standing : Standing) → ((place : ℕ) → g ≡ Met place Fails → standing ≢ Up) → Leaves (fold moved (book, r) (moves_of_start g)) standing (started_on g)
     start_orderly (Passed left) standing stands = settles_orderly standing r.device.read_log left is.read_log
     start_orderly (Met place Fails) standing stands = stays_orderly standing None (λ up. absurd (stands place refl up))
     start_orderly (Met place (Stops Lost)) standing stands = forgets_orderly standing r.device.safe_log None is.safe_log
-    start_orderly (Met place (Stops KeptAll)) standing stands = settles_orderly standing r.device.read_log None is.read_log
+    start_orderly (Met place (Stops Kept)) standing stands = settles_orderly standing r.device.read_log None is.read_log
     start_orderly (Met place (Stops Torn)) standing stands = settles_orderly standing (torn_log r.device.read_log r.device.safe_log) None (torn_orderly (r.device.safe_log.second && not r.device.read_log.second))
 
     module _ (settled : IsSettled r) (p : Pending) (new : IsOrderlyState w (after r.safe p.change)) where
       module _ (device : Device) where
-        unmoved : (g : Went) (standing : Standing) → standing ≢ Up → LogsLead p.change g device → Leaves (sc, r) standing device
+        unmoved : (g : Went) (standing : Standing) → standing ≢ Up → LogsLead p.change g device → Leaves (book, r) standing device
         unmoved g standing not_up logs = record { safe = is.safe; read = is.read; safe_log = logs.safe_log; read_log = logs.read_log; up = λ e. absurd (not_up e); up_log = λ e. absurd (not_up e); settled = inl settled }
 
-        begins_orderly : LogsLead p.change (Met 3 Fails) device → Leaves (moved (sc, r) (Begin p)) Failed device
+        begins_orderly : LogsLead p.change (Met 3 Fails) device → Leaves (moved (book, r) (Begin p)) Failed device
         begins_orderly logs = record { safe = is.safe; read = new; safe_log = logs.safe_log; read_log = logs.read_log; up = λ e. absurd (cc); up_log = λ e. absurd (cc); settled = inr (p, record { kept = refl; read = refl; read_log = logs.begun refl }) }
 
-        done_orderly : (g : Went) (standing : Standing) → (standing ≡ Up → device.read_log ≡ device.safe_log) → LogsLead p.change g device → Leaves (fold moved (sc, r) (Begin p ∷ Settle ∷ [])) standing device
+        done_orderly : (g : Went) (standing : Standing) → (standing ≡ Up → device.read_log ≡ device.safe_log) → LogsLead p.change g device → Leaves (fold moved (book, r) (Begin p ∷ Settle ∷ [])) standing device
         done_orderly g standing one logs = record { safe = new; read = new; safe_log = logs.safe_log; read_log = logs.read_log; up = λ e. (refl, refl); up_log = one; settled = inl (refl, refl) }
 
-        undone_orderly : (g : Went) → LogsLead p.change g device → Leaves (fold moved (sc, r) (Begin p ∷ Forget ∷ [])) Down device
+        undone_orderly : (g : Went) → LogsLead p.change g device → Leaves (fold moved (book, r) (Begin p ∷ Forget ∷ [])) Down device
         undone_orderly g logs = record { safe = is.safe; read = is.safe; safe_log = logs.safe_log; read_log = logs.read_log; up = λ e. absurd (cc); up_log = λ e. absurd (cc); settled = inl (refl, refl) }
 
-        where_so : (b : Bool) (ms : List Move) → Leaves (sc, r) Down device → Leaves (fold moved (sc, r) ms) Down device → Leaves (fold moved (sc, r) (if b then ms else [])) Down device
+        where_so : (b : Bool) (ms : List Move) → Leaves (book, r) Down device → Leaves (fold moved (book, r) ms) Down device → Leaves (fold moved (book, r) (if b then ms else [])) Down device
         where_so true ms not_moved left = left
         where_so false ms not_moved left = not_moved
 
-        down : (g : Went) → LogsLead p.change g device → Leaves (sc, r) Down device
+        down : (g : Went) → LogsLead p.change g device → Leaves (book, r) Down device
         down g logs = unmoved g Down (λ e. absurd (cc)) logs
 
         -- the moves of a commit, with what its calls left of the logs
-        led_orderly : (g : Went) → LogsLead p.change g device → Leaves (fold moved (sc, r) (moves_of_commit p g)) (standing_after Failed g) device
+        led_orderly : (g : Went) → LogsLead p.change g device → Leaves (fold moved (book, r) (moves_of_commit p g)) (standing_after Failed g) device
         led_orderly (Passed left) logs = done_orderly (Passed left) Up (λ e. logs.one left refl) logs
         led_orderly (Met place Fails) logs = by (place == 3) refl
           where
-            by : (b : Bool) → (place == 3) ≡ b → Leaves (fold moved (sc, r) (if b then Begin p ∷ [] else [])) Failed device
+            by : (b : Bool) → (place == 3) ≡ b → Leaves (fold moved (book, r) (if b then Begin p ∷ [] else [])) Failed device
             by true e = begins_orderly (subst (λ (n : ℕ). LogsLead p.change (Met n Fails) device) (eqb-true place 3 e) logs)
             by false e = unmoved (Met place Fails) Failed (λ up. absurd (cc)) logs
         led_orderly (Met place (Stops Lost)) logs = where_so (place == 3) (Begin p ∷ Forget ∷ []) (down (Met place (Stops Lost)) logs) (undone_orderly (Met place (Stops Lost)) logs)
-        led_orderly (Met place (Stops KeptAll)) logs = where_so (nat_le 2 place) (Begin p ∷ Settle ∷ []) (down (Met place (Stops KeptAll)) logs) (done_orderly (Met place (Stops KeptAll)) Down (λ e. absurd (cc)) logs)
+        led_orderly (Met place (Stops Kept)) logs = where_so (nat_le 2 place) (Begin p ∷ Settle ∷ []) (down (Met place (Stops Kept)) logs) (done_orderly (Met place (Stops Kept)) Down (λ e. absurd (cc)) logs)
         led_orderly (Met place (Stops Torn)) logs = where_so (nat_le 2 place) (Begin p ∷ Settle ∷ []) (down (Met place (Stops Torn)) logs) (done_orderly (Met place (Stops Torn)) Down (λ e. absurd (cc)) logs)
 
-      pub commit_orderly : change_fits r.device.safe_log r.safe.store p.change ≡ true → Leaves (fold moved (sc, r) (moves_of_commit p (commit_goes r p))) (standing_after Failed (commit_goes r p)) (device_after_commit r p)
+      pub commit_orderly : change_fits r.device.safe_log r.safe.store p.change ≡ true → Leaves (fold moved (book, r) (moves_of_commit p (commit_goes r p))) (standing_after Failed (commit_goes r p)) (device_after_commit r p)
       commit_orderly fits = led_orderly (device_after_commit r p) (commit_goes r p) (commit_leads r p is.safe_log fits)

@@ -57,7 +57,7 @@ same_mark_itself m = grind (arith, nat_tests)
 abbrev pub IsLimit : TakeRefusal → Type 0
 IsLimit x = (x ≡ takes.UsnLimit) ⊎ ((table : Table) × (limit : ℕ) × (x ≡ takes.Full table limit))
 
-module _ (sc : Book) (d s : State) (most now : ℕ) (book : IsSoundBook sc) (dest : IsSoundState sc d) (source : IsSoundState sc s) (d_normal : d.mode ≡ Normal) (s_normal : s.mode ≡ Normal)
+module _ (book : Book) (d s : State) (most now : ℕ) (sound_book : IsSoundBook book) (dest : IsSoundState book d) (source : IsSoundState book s) (d_normal : d.mode ≡ Normal) (s_normal : s.mode ≡ Normal)
     (schema : d.store.schema ≡ s.store.schema) (purged : at_most s.store.purged d.store.vector ≡ true) where
   abbrev pub q : Request
   q = ask d s.dsa most pull_version
@@ -65,8 +65,8 @@ module _ (sc : Book) (d s : State) (most now : ℕ) (book : IsSoundBook sc) (des
   abbrev pub r : Reply
   r = reply_to s q now
 
-  pub request_sound : IsSoundRequest sc q
-  request_sound = asked_is_sound sc d s.dsa most pull_version dest.store
+  pub request_sound : IsSoundRequest book q
+  request_sound = asked_is_sound book d s.dsa most pull_version dest.store
 
   pub serves_it : serve s q now ≡ Ok r
   serves_it = ap (λ o. unless o r) none
@@ -76,12 +76,12 @@ module _ (sc : Book) (d s : State) (most now : ℕ) (book : IsSoundBook sc) (des
           none_comes (then_some (is_quarantined s.mode) serves.Quarantined) _ (unmet _ _ (normal s.mode s_normal))
           ∙ (none_comes (then_some (not (same_identifier q.source s.dsa)) (serves.WrongController s.dsa q.source)) _ (unmet _ _ (ap not (test_itself s.dsa)))
           ∙ (none_comes (then_some (not (nat_le q.mark.prop q.mark.obj && nat_le q.mark.obj q.mark.seen)) (serves.BadMark q.mark.prop q.mark.obj q.mark.seen)) _ (unmet _ _ (in_order q.mark.prop q.mark.obj q.mark.seen request_sound.ordered.prop request_sound.ordered.obj))
-          ∙ (none_comes (then_some (nat_lt s.store.usn (shown_by s q)) (serves.RolledBack s.inv s.store.usn (shown_by s q))) _ (unmet _ _ (le-ltb s.store.usn (shown_by s q) (shown_within sc s q source request_sound)))
+          ∙ (none_comes (then_some (nat_lt s.store.usn (shown_by s q)) (serves.RolledBack s.inv s.store.usn (shown_by s q))) _ (unmet _ _ (le-ltb s.store.usn (shown_by s q) (shown_within book s q source request_sound)))
           ∙ (none_comes (then_some (not (q.schema == s.store.schema)) (serves.SchemaMismatch s.store.schema q.schema)) _ (unmet _ _ (ap not (eq-eqb q.schema s.store.schema schema)))
           ∙ none_comes (option_map (λ gap. serves.TooOld gap.0 gap.2 gap.1) (first_gap s.store.purged q.vector)) [] (all_covered (λ gap. serves.TooOld gap.0 gap.2 gap.1) s.store.purged q.vector purged)))))
 
-  pub reply_sound : IsSoundReply sc r
-  reply_sound = served_is_sound sc s q now r book source request_sound serves_it
+  pub reply_sound : IsSoundReply book r
+  reply_sound = served_is_sound book s q now r sound_book source request_sound serves_it
 
   -- ---- taking it
 
@@ -92,7 +92,7 @@ module _ (sc : Book) (d s : State) (most now : ℕ) (book : IsSoundBook sc) (des
   c = taken_change d r t
 
   whole : t.refusal ≡ None
-  whole = items_are_whole sc d r dest (record { book = book; base = base_of sc d dest; reply = reply_sound; mark = kept_is_sound sc d r book dest; asked = λ i. omega arith; schema = sym schema })
+  whole = items_are_whole book d r dest (record { book = sound_book; base = base_of book d dest; reply = reply_sound; mark = kept_is_sound book d r sound_book dest; asked = λ i. omega arith; schema = sym schema })
 
   abbrev limits : List (Option TakeRefusal)
   limits =
@@ -149,7 +149,7 @@ module _ (sc : Book) (d s : State) (most now : ℕ) (book : IsSoundBook sc) (des
   -- ---- what was sent
 
   sent_row : (u : Update) → IsSent r u → (h : Held) × Member h s.store.rows × (h.update ≡ u) × (covers_update d.store.vector h.update ≡ false)
-  sent_row u (i, m, n) = let x = item_is sc s q now book source request_sound purged i m in let h = row_is sc s q now book source request_sound purged i.unit u (subst (λ (j : Item). Member u j.rows) (is x.0 x.2) n) in
+  sent_row u (i, m, n) = let x = item_is book s q now sound_book source request_sound purged i m in let h = row_is book s q now sound_book source request_sound purged i.unit u (subst (λ (j : Item). Member u j.rows) (is x.0 x.2) n) in
       let k = of_filter (λ (y : Held). is_above_mark (begins_at s q) s.store.rows y && is_unseen (begins_at s q) q.vector y) s.store.rows h.0 h.1 in (h.0, k.0, h.2, uncovered h.0 k.1)
     where
       is : (x : Held) → i ≡ item_of (sendable s.store.rows (begins_at s q) q.vector) (unit_of x.update.key) → i ≡ item_of (sendable s.store.rows (begins_at s q) q.vector) i.unit

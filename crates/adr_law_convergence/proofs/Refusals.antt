@@ -14,7 +14,8 @@ use Rattle.adr_call.specs.declared.refusal.AdoptRefusal.{AdoptRefusal}
 use Rattle.adr_call.specs.declared.refusal.AdoptRefusal.TheVariants as adopts
 use Rattle.adr_model.specs.Store.{State}
 use Rattle.adr_model.specs.Refused.{write_refused, collect_refused, adopt_refused, upgrade_refused}
-use Rattle.adr_model.specs.Replica.{Stops, Fails, Went, Passed, Met, outcome_after}
+use Rattle.adr_disk.specs.declared.memory.Mishap.TheVariants.{Fails, Stops}
+use Rattle.adr_model.specs.Replica.{Went, Passed, Met, outcome_after}
 use Rattle.adr_model.specs.World.{World, reported}
 use Rattle.adr_model.specs.Convergence.{IsRefused}
 

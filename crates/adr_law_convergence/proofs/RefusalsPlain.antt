@@ -18,7 +18,9 @@ use Rattle.adr_model.specs.Serve.{is_quarantined}
 use Rattle.adr_model.specs.Write.{Write, write_meant, Revive}
 use Rattle.adr_model.specs.Given.{IsWellGiven}
 use Rattle.adr_model.specs.Collect.{collect, backup, adopt}
-use Rattle.adr_model.specs.Replica.{ToCollect, Standing, Up, Down, Failed, Plan, Stops, Fails, Replica, on_new_disk, begun, commit_goes, start_goes, ToUpgrade}
+use Rattle.adr_disk.specs.declared.memory.Mishap.TheVariants.{Fails, Stops}
+use Rattle.adr_disk.specs.declared.memory.Plan.{Plan}
+use Rattle.adr_model.specs.Replica.{ToCollect, Standing, Up, Down, Failed, Replica, on_new_disk, begun, commit_goes, start_goes, ToUpgrade}
 use Rattle.adr_model.specs.World.{Name, World, Snapshot, Gone, Sent, answer, stays, nothing, bound_at, replica_at, with_replica, of_made, of_controller, committed, writes, after_collect, asks, serves_request, delivers, backed_up, adopts, of_image, put_back, with_plan, stops, starts, reported, after_upgrade}
 use Rattle.adr_model.specs.Step.{client_write, write_of, gives, step, revival, stepped}
 use Rattle.adr_model.specs.Convergence.{MayHappen}
@@ -158,8 +160,8 @@ module _ (Q : Event → World → Answer → Type 0) (w : World) (plain : (e : E
   line_case (events.Install name dsa image inv) may = plainly (events.Install name dsa image inv) (codes "install") name (step w (events.Install name dsa image inv)).0 _ (installs (gives w (dsa ∷ []) (inv ∷ [])) name image dsa inv)
   line_case (events.Snapshot name bind) may = plainly (events.Snapshot name bind) (codes "snapshot") name (step w (events.Snapshot name bind)).0 _ (taken_back w name)
   line_case (events.Rollback name snapshot) may = plainly (events.Rollback name snapshot) (codes "rollback") name (step w (events.Rollback name snapshot)).0 _ (rolls_back w name (bound_at w.snapshots snapshot))
-  line_case (events.StopAfter name calls how) may = plainly (events.StopAfter name calls how) (codes "stop") name (step w (events.StopAfter name calls how)).0 _ (plans w name (record { calls = calls; fault = Stops how }))
-  line_case (events.Fail name calls) may = plainly (events.Fail name calls) (codes "fail") name (step w (events.Fail name calls)).0 _ (plans w name (record { calls = calls; fault = Fails }))
+  line_case (events.StopAfter name calls how) may = plainly (events.StopAfter name calls how) (codes "stop") name (step w (events.StopAfter name calls how)).0 _ (plans w name (record { calls = calls; mishap = Stops how }))
+  line_case (events.Fail name calls) may = plainly (events.Fail name calls) (codes "fail") name (step w (events.Fail name calls)).0 _ (plans w name (record { calls = calls; mishap = Fails }))
   line_case (events.Stop name) may = plainly (events.Stop name) (codes "stop") name (step w (events.Stop name)).0 _ (stopped w name)
   line_case (events.Start name) may = plainly (events.Start name) (codes "start") name (step w (events.Start name)).0 _ (started w name)
   line_case (events.Report name what) may = plainly (events.Report name what) (word_of (verb_of_report what)) name (step w (events.Report name what)).0 _ (reports w name what)

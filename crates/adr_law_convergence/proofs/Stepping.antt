@@ -10,7 +10,9 @@ use Rattle.adr_model.specs.Serve.{Request, Reply}
 use Rattle.adr_model.specs.Write.{Write, write_meant, write, Revive}
 use Rattle.adr_model.specs.Given.{IsWellGiven}
 use Rattle.adr_model.specs.Collect.{collect, adopt, backup}
-use Rattle.adr_model.specs.Replica.{Standing, Up, Down, Failed, Stops, Fails, Plan, Replica, device_settled}
+use Rattle.adr_disk.specs.declared.memory.Mishap.TheVariants.{Fails, Stops}
+use Rattle.adr_disk.specs.declared.memory.Plan.{Plan}
+use Rattle.adr_model.specs.Replica.{Standing, Up, Down, Failed, Replica, device_settled}
 use Rattle.adr_model.specs.World.{Name, World, Snapshot, Gone, Sent, stays, nothing, bound, bound_at, writes, asks, serves_request, delivered, delivers, after_write, after_collect, backed_up, adopts, of_made, of_image, put_back, of_controller, with_plan, stops, starts, with_replica, replica_at, reported, after_upgrade}
 use Rattle.adr_model.specs.Cycles.{pull, pulls, reply_limit, pull_version}
 use Rattle.adr_model.specs.Step.{gives, step, revival, stepped}
@@ -148,8 +150,8 @@ module _ (w : World) (sound : IsSoundWorld w) where
       subst (λ (v : World). IsSoundWorld (record v { snapshots = bound v.snapshots bind (copied name).2 })) (sym (snapshot_makes name)) (aside w sound w.time (bound w.snapshots bind (copied name).2))
   step_sound (events.Rollback name snapshot) may clean =
       made_case (λ (g : Gone). g.0.clean ≡ true → SoundBehind g) w name (stays w) (λ x is. sound) (λ r. put_back w name (bound_at w.snapshots snapshot)) (λ r called is. put_back_so name (bound_at w.snapshots snapshot) is) clean
-  step_sound (events.StopAfter name calls how) may clean = with_plan_so name (record { calls = calls; fault = Stops how })
-  step_sound (events.Fail name calls) may clean = with_plan_so name (record { calls = calls; fault = Fails })
+  step_sound (events.StopAfter name calls how) may clean = with_plan_so name (record { calls = calls; mishap = Stops how })
+  step_sound (events.Fail name calls) may clean = with_plan_so name (record { calls = calls; mishap = Fails })
   step_sound (events.Stop name) may clean = made_case SoundBehind w name (stays w) (λ x. sound) (λ r. stops w r) (λ r called. stopped w sound r called.there Down (device_settled r))
   step_sound (events.Start name) may clean = made_case SoundBehind w name (stays w) (λ x. sound) (λ r. starts w r r.standing) (λ r called. started_so r called.there r.standing refl)
   step_sound (events.Report name what) may clean = reached_case SoundBehind w name (stays w) (λ x. sound) (λ r. (w, reported w r.safe what)) (λ r called up. sound)

@@ -5,7 +5,7 @@ use Rattle.adr_vector.specs.Vector.{Cursors, IsVector, at, joined}
 use Rattle.adr_vector.proofs.Joining.{at-joined}
 use Rattle.adr_model.specs.Member.{Each}
 use Rattle.adr_model.specs.Update.{Identifier, same_identifier}
-use Rattle.adr_model.specs.Store.{Kept, State}
+use Rattle.adr_model.specs.Store.{PartnerMark, State}
 use Rattle.adr_model.specs.Change.{Change, after}
 use Rattle.adr_model.specs.Formed.{IsFormed}
 use Rattle.adr_model.specs.Serve.{Request, Reply, first_items, candidates, byte_limit, begins_at, times_told, reply_of}
@@ -24,7 +24,7 @@ told_more w v x t up is = record { reply = is.reply; made = is.made; inv = is.in
 
 -- a change keeps a store traced that brings a mark of a given identifier, and times that were told
 pub changed_traced : (w : World) (s : State) (c : Change) → IsVector c.joined → IsTraced w s.store → IfSome c.mark (λ m. IsGiven w m.1.inv) → WereTold w c.joined c.times → IsTraced w (after s c).store
-changed_traced w s c vector is mark told = (each_mark (λ (k : Kept). IsGiven w k.inv) c.mark s.store.marks mark is.0, times)
+changed_traced w s c vector is mark told = (each_mark (λ (k : PartnerMark). IsGiven w k.inv) c.mark s.store.marks mark is.0, times)
   where
     up : (i : Identifier) → at (joined s.store.vector c.joined) i ≤ at (after s c).store.vector i
     up = raised_up (joined s.store.vector c.joined) s.inv c.usn

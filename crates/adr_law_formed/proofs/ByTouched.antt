@@ -13,7 +13,7 @@ use Rattle.adr_vector.proofs.Joining.{at-joined, raised_here, rising-raised, fro
 use Rattle.adr_model.specs.Member.{Member, Each}
 use Rattle.adr_model.specs.Update.{Key, Update, LinkOf, RowOf, Holds, unit_of, class_attr}
 use Rattle.adr_model.specs.Reflects.{AtMost, HoldsObject}
-use Rattle.adr_model.specs.Store.{Held, Kept, State, updates_of}
+use Rattle.adr_model.specs.Store.{Held, PartnerMark, State, updates_of}
 use Rattle.adr_model.specs.Change.{Change, Written, held_of, rows_after, after}
 use Rattle.adr_model.specs.Formed.{AreFormedRows, IsLinkFormed, IsFormedStore, IsFormed}
 use Rattle.adr_model.specs.LocalLog.{IsOrdered}
@@ -226,7 +226,7 @@ module _ (s : State) (c : Change) (formed : IsFormed s) (known : HasKnownClasses
     times = times_join s.store.vector c.joined d.store.vector s.store.times c.times higher carried formed.store.times f.goes_on.times;
     purged = purged;
     purged_within = at_most_from_everywhere d.store.purged d.store.vector purged.rising purged_within;
-    marks = each_mark (λ (k : Kept). IsOrdered k.mark) c.mark s.store.marks f.goes_on.mark formed.store.marks;
+    marks = each_mark (λ (k : PartnerMark). IsOrdered k.mark) c.mark s.store.marks f.goes_on.mark formed.store.marks;
     rising = removals_rise c.removed written passed.order.rising;
     locals = λ h m. passed.order.locals h (stood_before c.removed written h m);
     alone = stay_alone c.removed written passed.order.alone;

@@ -17,7 +17,7 @@ use Rattle.adr_vector.proofs.Moments.{times_stay}
 use Rattle.adr_call.specs.declared.refusal.Table.TheVariants.{Cursors as CursorTable}
 use Rattle.adr_call.specs.declared.refusal.AdoptRefusal.TheVariants.{IdentifierUsed, Full}
 use Rattle.adr_model.specs.Update.{Identifier, inv_of, same_identifier, ends}
-use Rattle.adr_model.specs.Store.{Held, Kept, Normal, Store, State, updates_of, empty_state}
+use Rattle.adr_model.specs.Store.{Held, PartnerMark, Normal, Store, State, updates_of, empty_state}
 use Rattle.adr_model.specs.Formed.{IsFormedStore, IsFormed}
 use Rattle.adr_model.specs.Sound.{AreClassesKnown}
 use Rattle.adr_model.specs.Collect.{names_inv, woken, adopt_refusal, adopt, quarantine}
@@ -110,7 +110,7 @@ module _ (image : Store) (dsa inv : Identifier) (formed : IsFormedStore image) w
       (list_any (λ (h : Held). same_identifier (inv_of h.update) inv || list_any (λ (o : Oid). same_identifier o.birth.inv inv) (ends h.update.key)) image.rows)
       (or_parts (list_any (λ (c : Identifier × ℕ). same_identifier c.0 inv) image.vector || list_any (λ (c : Identifier × ℕ). same_identifier c.0 inv) image.purged
       || list_any (λ (h : Held). same_identifier (inv_of h.update) inv || list_any (λ (o : Oid). same_identifier o.birth.inv inv) (ends h.update.key)) image.rows)
-      (list_any (λ (k : Identifier × Kept). same_identifier k.1.inv inv) image.marks) none).0).0).0
+      (list_any (λ (k : Identifier × PartnerMark). same_identifier k.1.inv inv) image.marks) none).0).0).0
 
   woken_formed : names_inv image inv ≡ false → length (raised image.vector inv image.usn) ≤ cursor_limit
       → IsFormed s

@@ -16,7 +16,7 @@ use Rattle.adr_vector.specs.Vector.{joined}
 use Rattle.adr_vector.proofs.Cursors.{turned}
 use Rattle.adr_model.specs.Member.{Member, Each}
 use Rattle.adr_model.specs.Update.{Identifier, Update}
-use Rattle.adr_model.specs.Store.{Held, Kept, State, updates_of}
+use Rattle.adr_model.specs.Store.{Held, PartnerMark, State, updates_of}
 use Rattle.adr_model.specs.Change.{Item, Written, Change, held_of, updates_written, with_mark, after}
 use Rattle.adr_model.specs.Take.{Taking, begin, rows_taken, writes_of, take_item, take_items}
 use Rattle.adr_model.proofs.Members.{flat_member, member_flat, mapped_member, member_of_either}
@@ -57,19 +57,19 @@ purged_from P s c old new e m = ⊎_elim (new e) (old e) (joined_from c.purged s
 
 -- ---- marks
 
-abbrev partners : List (Identifier × Kept) → List Identifier
-partners marks = map (λ (k : Identifier × Kept). k.0) marks
+abbrev partners : List (Identifier × PartnerMark) → List Identifier
+partners marks = map (λ (k : Identifier × PartnerMark). k.0) marks
 
-pub marks_from : (P : Identifier × Kept → Type 0) (s : State) (c : Change) → Each P s.store.marks
+pub marks_from : (P : Identifier × PartnerMark → Type 0) (s : State) (c : Change) → Each P s.store.marks
     → IfSome c.mark P → Each P (after s c).store.marks
 marks_from P s c old new = by c.mark new
   where
-    by : (o : Option (Identifier × Kept)) → IfSome o P → Each P (with_mark o s.store.marks)
+    by : (o : Option (Identifier × PartnerMark)) → IfSome o P → Each P (with_mark o s.store.marks)
     by None n k m = old k m
     by (Some x) n k m = ⊎_elim (λ same. subst P (sym same) n) (old k)
         (entry_from identifier_order exact_bytes s.store.marks x.0 x.1 k m)
 
-below_inserted : (a : Identifier) (ks : List (Identifier × Kept)) (id : Identifier) (k : Kept)
+below_inserted : (a : Identifier) (ks : List (Identifier × PartnerMark)) (id : Identifier) (k : PartnerMark)
     → identifier_order a id ≡ Less → AllByRecursion (λ b. identifier_order a b ≡ Less) (partners ks)
     → AllByRecursion (λ b. identifier_order a b ≡ Less) (partners (insert_entry identifier_order ks id k))
 below_inserted a [] id k less all = (less, tt)
@@ -88,7 +88,7 @@ all_below : (a b : Identifier) (ids : List Identifier) → identifier_order a b 
 all_below a b [] less all = tt
 all_below a b (c ∷ cs) less all = (nat_list_cmp_total.trans a b c less all.0, all_below a b cs less all.1)
 
-inserted_rise : (ks : List (Identifier × Kept)) (id : Identifier) (k : Kept)
+inserted_rise : (ks : List (Identifier × PartnerMark)) (id : Identifier) (k : PartnerMark)
     → IsStrictlySortedBy identifier_order (partners ks)
     → IsStrictlySortedBy identifier_order (partners (insert_entry identifier_order ks id k))
 unfolding IsStrictlySortedBy
@@ -103,11 +103,11 @@ inserted_rise (x ∷ xs) id k rising = by (identifier_order id x.0) refl (insert
     by Greater e rest = (below_inserted x.0 xs id k (turned id x.0 e) rising.0, rest)
 
 pub partners_rise : (s : State) (c : Change)
-    → IsStrictlySortedBy identifier_order (map (λ (k : Identifier × Kept). k.0) s.store.marks)
-    → IsStrictlySortedBy identifier_order (map (λ (k : Identifier × Kept). k.0) (after s c).store.marks)
+    → IsStrictlySortedBy identifier_order (map (λ (k : Identifier × PartnerMark). k.0) s.store.marks)
+    → IsStrictlySortedBy identifier_order (map (λ (k : Identifier × PartnerMark). k.0) (after s c).store.marks)
 partners_rise s c rising = by c.mark
   where
-    by : (o : Option (Identifier × Kept))
+    by : (o : Option (Identifier × PartnerMark))
         → IsStrictlySortedBy identifier_order (partners (with_mark o s.store.marks))
     by None = rising
     by (Some x) = inserted_rise s.store.marks x.0 x.1 rising
@@ -169,7 +169,7 @@ pub whence_marks : (s : State) (c : Change)
 whence_marks s c = marks_from (λ k. Member k s.store.marks ⊎ (c.mark ≡ Some k)) s c (λ k m. inl m)
     (brought c.mark refl)
   where
-    brought : (o : Option (Identifier × Kept)) → c.mark ≡ o
+    brought : (o : Option (Identifier × PartnerMark)) → c.mark ≡ o
         → IfSome o (λ k. Member k s.store.marks ⊎ (c.mark ≡ Some k))
     brought None e = tt
     brought (Some k) e = inr e

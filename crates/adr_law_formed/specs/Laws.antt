@@ -7,7 +7,7 @@ use Rattle.adr_schema.specs.Table.{Table}
 use Rattle.adr_vector.specs.Vector.{Cursors}
 use Rattle.adr_model.specs.Member.{Member, Each}
 use Rattle.adr_model.specs.Update.{Identifier}
-use Rattle.adr_model.specs.Store.{Held, Kept, Normal, Store, State, updates_of, empty_state}
+use Rattle.adr_model.specs.Store.{Held, PartnerMark, Normal, Store, State, updates_of, empty_state}
 use Rattle.adr_model.specs.Change.{Item, Written, Change, updates_written, after}
 use Rattle.adr_model.specs.Formed.{AreRising, AreFormedRows, IsFormedStore, IsFormed}
 use Rattle.adr_model.specs.Sound.{AreClassesKnown}
@@ -161,8 +161,8 @@ abbrev pub TimesStoodOrCame : Type 0
 TimesStoodOrCame = (s : State) (c : Change) → Each (λ t. Member t s.store.times ⊎ Member t c.times) (after s c).store.times
 
 -- partners of marks rise
-abbrev pub ArePartnersRising : List (Identifier × Kept) → Type 0
-ArePartnersRising marks = IsStrictlySortedBy identifier_order (map (λ (k : Identifier × Kept). k.0) marks)
+abbrev pub ArePartnersRising : List (Identifier × PartnerMark) → Type 0
+ArePartnersRising marks = IsStrictlySortedBy identifier_order (map (λ (k : Identifier × PartnerMark). k.0) marks)
 
 abbrev pub PartnersStayRising : Type 0
 PartnersStayRising =

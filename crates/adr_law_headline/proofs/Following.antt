@@ -18,7 +18,8 @@ use Rattle.adr_model.specs.Write.{write_meant}
 use Rattle.adr_model.specs.Given.{IsWellGiven}
 use Rattle.adr_model.specs.Store.{empty_state}
 use Rattle.adr_model.specs.Collect.{backup, adopt}
-use Rattle.adr_model.specs.Replica.{Stops, Fails, Replica, Book, on_new_disk, begun}
+use Rattle.adr_disk.specs.declared.memory.Mishap.TheVariants.{Fails, Stops}
+use Rattle.adr_model.specs.Replica.{Replica, Book, on_new_disk, begun}
 use Rattle.adr_model.specs.World.{Name, World, empty_world, nothing, bound, bound_at, replica_at, of_made, of_controller, asks, serves_request, backed_up, reported}
 use Rattle.adr_model.specs.Cycles.{reply_limit}
 use Rattle.adr_model.specs.Step.{gives, step}
@@ -271,9 +272,9 @@ event_may seen w (events.Snapshot name bind) agrees cause allowed =
 event_may seen w (events.Rollback name snapshot) agrees cause allowed =
     (tt, agrees_on seen w (step w (events.Rollback name snapshot)).0 agrees (rollbacks_stay w name (bound_at w.snapshots snapshot)))
 event_may seen w (events.StopAfter name calls how) agrees cause allowed =
-    (tt, agrees_on seen w (step w (events.StopAfter name calls how)).0 agrees (plans_stay w name (record { calls = calls; fault = Stops how })))
+    (tt, agrees_on seen w (step w (events.StopAfter name calls how)).0 agrees (plans_stay w name (record { calls = calls; mishap = Stops how })))
 event_may seen w (events.Fail name calls) agrees cause allowed =
-    (tt, agrees_on seen w (step w (events.Fail name calls)).0 agrees (plans_stay w name (record { calls = calls; fault = Fails })))
+    (tt, agrees_on seen w (step w (events.Fail name calls)).0 agrees (plans_stay w name (record { calls = calls; mishap = Fails })))
 event_may seen w (events.Stop name) agrees cause allowed = (tt, agrees_on seen w (step w (events.Stop name)).0 agrees (stops_stay w name))
 event_may seen w (events.Start name) agrees cause allowed = (tt, agrees_on seen w (step w (events.Start name)).0 agrees (starts_stay w name))
 event_may seen w (events.Report name what) agrees cause allowed =

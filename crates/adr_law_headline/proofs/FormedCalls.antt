@@ -21,7 +21,8 @@ use Rattle.adr_model.specs.Take.{take}
 use Rattle.adr_model.specs.Collect.{collect, backup, adopt, quarantine}
 use Rattle.adr_model.specs.Lengths.{new_log, area_fits, change_fits}
 use Rattle.adr_model.specs.Refused.{serve_refused, take_refused, quarantined}
-use Rattle.adr_model.specs.Replica.{Pending, ToWrite, ToTake, ToCollect, ToQuarantine, Standing, Up, Down, Failed, Plan, Device, Replica, on_disk, on_new_disk, Book, begun, Settle, moved, moves_of_commit, moves_of_start, standing_after, commit_goes, start_goes, device_after_commit, device_after_start, device_settled}
+use Rattle.adr_disk.specs.declared.memory.Plan.{Plan}
+use Rattle.adr_model.specs.Replica.{Pending, ToWrite, ToTake, ToCollect, ToQuarantine, Standing, Up, Down, Failed, Device, Replica, on_disk, on_new_disk, Book, begun, Settle, moved, moves_of_commit, moves_of_start, standing_after, commit_goes, start_goes, device_after_commit, device_after_start, device_settled}
 use Rattle.adr_model.specs.World.{Name, World, Snapshot, Gone, Sent, stays, nothing, bound_at, replica_at, with_replica, of_made, of_controller, committed, commit, quarantines, after_write, writes, after_collect, noted, asks, after_serve, served, serves_request, after_take, delivered, delivers, backed_up, adopts, of_image, put_back, with_plan, stops, starts}
 use Rattle.adr_model.proofs.Members.{member_of_either}
 use Rattle.adr_law_convergence.proofs.Found.{bound_member, in_place}
@@ -64,8 +65,8 @@ module _ (P : Update → Type 0) (w : World) (is : IsWorldInForm P w) where
       by (inr (inl e)) = subst (BothInForm P) (sym e) both
       by (inr (inr n)) = absurd n
 
-  moved_on : (sc : Book) (rs : List Replica) → Each (BothInForm P) rs → IsWorldInForm P (record w { book = sc; replicas = rs })
-  moved_on sc rs each = record { time = is.time; replicas = each; requests = is.requests; replies = is.replies; images = is.images; snapshots = is.snapshots }
+  moved_on : (book : Book) (rs : List Replica) → Each (BothInForm P) rs → IsWorldInForm P (record w { book = book; replicas = rs })
+  moved_on book rs each = record { time = is.time; replicas = each; requests = is.requests; replies = is.replies; images = is.images; snapshots = is.snapshots }
 
   nothing_made : {A : Type 0} (Q : A → Type 0) (x : Outcome) → MakesInForm P Q (nothing w x)
   nothing_made Q x = (is, λ y e. absurd (cc))

@@ -14,7 +14,7 @@ use Rattle.adr_model.specs.Serve.{Request, Reply}
 use Rattle.adr_model.specs.Write.{Write, write_meant}
 use Rattle.adr_model.specs.Given.{IsWellGiven}
 use Rattle.adr_model.specs.Collect.{backup}
-use Rattle.adr_model.specs.Replica.{Stops, Fails}
+use Rattle.adr_disk.specs.declared.memory.Mishap.TheVariants.{Fails, Stops}
 use Rattle.adr_model.specs.World.{World, Name, Snapshot, Sent, empty_world, nothing, bound, bound_at, replica_at, of_made, of_controller, writes, asks, serves_request, backed_up, reported}
 use Rattle.adr_model.specs.Cycles.{Pulled, pull_served, pull_asked, pull, and_then, pulls, cycle, reply_limit, pull_version}
 use Rattle.adr_model.specs.Rings.{Connection, ring, times, rings}
@@ -130,8 +130,8 @@ module _ (P : Update → Type 0) where
     event_in_form w is (events.Snapshot name bind) may does typed so =
         bound_snapshot (of_made (nothing w) (replica_at w name) (λ r. (w, outcomes.Ok, Some (record { state = r.read; log = r.device.read_log })))) bind (copies_in_form P w is name)
     event_in_form w is (events.Rollback name snapshot) may does typed so = puts_back_in_form P w is name snapshot
-    event_in_form w is (events.StopAfter name calls how) may does typed so = plans_in_form P w is name (record { calls = calls; fault = Stops how })
-    event_in_form w is (events.Fail name calls) may does typed so = plans_in_form P w is name (record { calls = calls; fault = Fails })
+    event_in_form w is (events.StopAfter name calls how) may does typed so = plans_in_form P w is name (record { calls = calls; mishap = Stops how })
+    event_in_form w is (events.Fail name calls) may does typed so = plans_in_form P w is name (record { calls = calls; mishap = Fails })
     event_in_form w is (events.Stop name) may does typed so = stops_in_form P w is name
     event_in_form w is (events.Start name) may does typed so = starts_in_form P w is name
     event_in_form w is (events.Report name what) may does typed so = reports_in_form P w is name (λ r. reported w r.safe what)

@@ -22,7 +22,8 @@ use Rattle.adr_model.specs.Take.{take}
 use Rattle.adr_model.specs.Collect.{quarantine, collect, backup}
 use Rattle.adr_model.specs.Upgrade.{upgrade}
 use Rattle.adr_model.specs.Refused.{adopt_refused, full}
-use Rattle.adr_model.specs.Replica.{Pending, ToWrite, ToTake, ToCollect, ToUpgrade, ToQuarantine, Settle, Move, Standing, Up, Down, Failed, Plan, Device, Replica, on_new_disk, begun, moves_of_start, standing_after, outcome_after, start_goes, device_after_start, device_settled}
+use Rattle.adr_disk.specs.declared.memory.Plan.{Plan}
+use Rattle.adr_model.specs.Replica.{Pending, ToWrite, ToTake, ToCollect, ToUpgrade, ToQuarantine, Settle, Move, Standing, Up, Down, Failed, Device, Replica, on_new_disk, begun, moves_of_start, standing_after, outcome_after, start_goes, device_after_start, device_settled}
 use Rattle.adr_model.specs.World.{Name, Snapshot, World, Gone, Sent, stays, nothing, with_replica, committed, commit, writes, after_write, after_collect, after_upgrade, asks, after_serve, served, serves_request, after_take, delivered, delivers, backed_up, adopts, of_image, put_back, of_made, of_controller, replica_at, with_plan, after_moves, stops, starts}
 use Rattle.adr_model.specs.Cycles.{Pulled, pull_served, pull_asked, pull, and_then, pulls, cycle, reply_limit, pull_version}
 use Rattle.adr_model.specs.Rings.{rings}

@@ -5,7 +5,7 @@ use Rattle.adr_io.specs.declared.Fault.{Fault as Cause}
 use Rattle.adr_io.specs.declared.Fault.TheVariants.{Failed as failed_call}
 use Rattle.adr_disk.specs.declared.memory.Crash.TheVariants.{Kept, Lost, Torn}
 use Rattle.adr_disk.specs.declared.memory.Mishap.{Mishap}
-use Rattle.adr_disk.specs.declared.memory.Mishap.TheVariants.{Failure, Crash}
+use Rattle.adr_disk.specs.declared.memory.Mishap.TheVariants.{Fails, Stops}
 use Rattle.adr_disk.specs.Disk.{put, Only, Writes, Syncs}
 use Rattle.adr_disk.proofs.Bytes.{Torn-put}
 use Rattle.adr_disk.specs.Memory.{DiskState, read_of, IsImage, torn_half, Does}
@@ -18,11 +18,10 @@ use Rattle.adr_law_journal.specs.Areas.{Found, found, selects_second, selector_p
 use Rattle.adr_law_journal.specs.Commits.{Checkpoints, selector_of}
 use Rattle.adr_law_journal.specs.Kept.{Layout, starts, Rests, Ready}
 use Rattle.adr_law_journal.specs.Planned.{Leads}
-use Rattle.adr_law_journal.specs.Replicas.{fault_of, plan_of}
 use Rattle.adr_law_journal.proofs.Keeping.{long_u64, both_ready, torn_new_area, torn_other_slot, put_selector}
 use Rattle.adr_law_journal.proofs.Settled.{stands}
 use Rattle.adr_law_journal.proofs.Stages.{Stage, step_write, step_sync, fail_write, fail_sync}
-use Rattle.adr_law_journal.proofs.Moves.{Three, all_of, three_of, three_after, Shows, Holds, Fails, went_passed, passed_holds, failed_holds, met_fails, none_yet, torn_of_two, rest_of}
+use Rattle.adr_law_journal.proofs.Moves.{Three, all_of, three_of, three_after, Shows, Holds, MeetsMishap, went_passed, passed_holds, failed_holds, met_fails, none_yet, torn_of_two, rest_of}
 
 -- ---- the logs after each mishap
 
@@ -40,37 +39,37 @@ module _ {S : Type 0} (s : S) (log other : Log) (is_other : other.second ≡ not
   begun = (found s other, old_one, found s torn_one)
 
   abbrev Agrees : ℕ → Mishap → Three S → Three S → Type 0
-  Agrees k m before begun = checkpoint_three s log other (Met k (fault_of m)) ≡ three_after m before begun
+  Agrees k m before begun = checkpoint_three s log other (Met k m) ≡ three_after m before begun
 
   at_0 : (m : Mishap) → Agrees 0 m (all_of old_one) (all_of old_one)
-  at_0 Failure = rest_of s log
-  at_0 (Crash Kept) = rest_of s log
-  at_0 (Crash Lost) = rest_of s log
-  at_0 (Crash Torn) = rest_of s log
+  at_0 Fails = rest_of s log
+  at_0 (Stops Kept) = rest_of s log
+  at_0 (Stops Lost) = rest_of s log
+  at_0 (Stops Torn) = rest_of s log
 
   at_1 : (m : Mishap) → Agrees 1 m (all_of old_one) (all_of old_one)
-  at_1 Failure = rest_of s log
-  at_1 (Crash Kept) = rest_of s log
-  at_1 (Crash Lost) = rest_of s log
-  at_1 (Crash Torn) = rest_of s log
+  at_1 Fails = rest_of s log
+  at_1 (Stops Kept) = rest_of s log
+  at_1 (Stops Lost) = rest_of s log
+  at_1 (Stops Torn) = rest_of s log
 
   at_2 : (m : Mishap) → Agrees 2 m (all_of old_one) (all_of old_one)
-  at_2 Failure = rest_of s log
-  at_2 (Crash Kept) = rest_of s log
-  at_2 (Crash Lost) = rest_of s log
-  at_2 (Crash Torn) = rest_of s log
+  at_2 Fails = rest_of s log
+  at_2 (Stops Kept) = rest_of s log
+  at_2 (Stops Lost) = rest_of s log
+  at_2 (Stops Torn) = rest_of s log
 
   at_3 : (m : Mishap) → Agrees 3 m (all_of old_one) begun
-  at_3 Failure = rest_of s log
-  at_3 (Crash Kept) = rest_of s other
-  at_3 (Crash Lost) = rest_of s log
-  at_3 (Crash Torn) = rest_of s torn_one
+  at_3 Fails = rest_of s log
+  at_3 (Stops Kept) = rest_of s other
+  at_3 (Stops Lost) = rest_of s log
+  at_3 (Stops Torn) = rest_of s torn_one
 
   at_4 : (m : Mishap) → Agrees 4 m begun begun
-  at_4 Failure = λ i. (found s other, old_one, found s (torn_of_two log other is_other i))
-  at_4 (Crash Kept) = rest_of s other
-  at_4 (Crash Lost) = rest_of s log
-  at_4 (Crash Torn) = rest_of s torn_one
+  at_4 Fails = λ i. (found s other, old_one, found s (torn_of_two log other is_other i))
+  at_4 (Stops Kept) = rest_of s other
+  at_4 (Stops Lost) = rest_of s log
+  at_4 (Stops Torn) = rest_of s torn_one
 
 -- ---- the five calls
 
@@ -83,7 +82,7 @@ pub record Selected {H S : Type 0} (l : Layout H S) (s : S) (other : Log) (old n
   pub up : new.stopped ≡ false
   pub rests : Rests l s other (read_of new.held.surface)
   pub only : Only (read_of new.held.surface) (IsImage new.held.surface)
-  pub goes : went (plan_of old.plan) 5 ≡ Passed (plan_of new.plan)
+  pub goes : went old.plan 5 ≡ Passed new.plan
 
 module _ {H S : Type 0} (l : Layout H S) (s : S) (log : Log) (place version : ℕ) (image : List ℕ) (old new : DiskState)
     (up : old.stopped ≡ false) (rests : Rests l s log (read_of old.held.surface)) (only : Only (read_of old.held.surface) (IsImage old.held.surface))
@@ -179,11 +178,11 @@ module _ {H S : Type 0} (l : Layout H S) (s : S) (log : Log) (place version : �
         up = at_5.up;
         rests = subst (Rests l s other) (sym at_5.seen.is_read) w3_rests;
         only = subst (λ (x : List ℕ). Only x (IsImage new.held.surface)) (at_4.seen.is_read ∙ sym at_5.seen.is_read) (sync_durable {T = ℕ} d new (Ok 0) last);
-        goes = went_passed old.plan 5 at_5.waits ∙ ap (λ p. let g : Went = Passed (plan_of p) in g) (sym at_5.left);
+        goes = went_passed old.plan 5 at_5.waits ∙ ap (λ p. let g : Went = Passed p in g) (sym at_5.left);
       }
 
   abbrev Failing : Type 0
-  Failing = Fails (starts l) new (checkpoint_three s log other) Failed old.plan 5
+  Failing = MeetsMishap (starts l) new (checkpoint_three s log other) Failed old.plan 5
 
   -- or one met a fault
   pub unselected : Checkpoints Does place written (not log.second) old (Some failed_call) new → Failing
@@ -205,9 +204,9 @@ module _ {H S : Type 0} (l : Layout H S) (s : S) (log : Log) (place version : �
 
   -- as the logs say
   abbrev Led : Option Cause → Type 0
-  Led e = Leads (starts l) s (logs_of_checkpoint log other (went (plan_of old.plan) 5)) (went (plan_of old.plan) 5) e new
+  Led e = Leads (starts l) s (logs_of_checkpoint log other (went old.plan 5)) (went old.plan 5) e new
 
-  led : (e : Option Cause) → Holds (starts l) new (checkpoint_three s log other (went (plan_of old.plan) 5)) Failed e (went (plan_of old.plan) 5) → Led e
+  led : (e : Option Cause) → Holds (starts l) new (checkpoint_three s log other (went old.plan 5)) Failed e (went old.plan 5) → Led e
   led e h = record { is_read = h.shows.in_read; is_safe = h.shows.in_lost; is_torn = h.shows.in_torn; is_plan = h.plan; stands = h.stands; running = h.running }
 
   pub passed : Checkpoints Does place written (not log.second) old None new → Led None

@@ -6,7 +6,7 @@ use Rattle.std.proofs.lemmas.Bool.Decides.{nat_tests}
 use Rattle.adr_io.specs.declared.Fault.TheVariants.{Failed}
 use Rattle.adr_disk.specs.declared.memory.Crash.TheVariants.{Kept}
 use Rattle.adr_disk.specs.declared.memory.Mishap.{Mishap}
-use Rattle.adr_disk.specs.declared.memory.Mishap.TheVariants.{Failure, Crash}
+use Rattle.adr_disk.specs.declared.memory.Mishap.TheVariants.{Fails, Stops}
 use Rattle.adr_disk.specs.declared.memory.Plan.{Plan}
 use Rattle.adr_disk.specs.Disk.{put, Call, Writes, Syncs, Looks}
 use Rattle.adr_disk.specs.Memory.{Write, DiskState, torn_half, with_write, after_write, after_end, SameState, planned, meets, one_less, failed, Does}
@@ -75,8 +75,8 @@ pub record Stage (plan : Option Plan) (k : ℕ) (d : DiskState) (read lost torn 
 
 -- after a mishap in the next call
 abbrev pub Left : Mishap → DiskState → (List ℕ × List ℕ × List ℕ) → (List ℕ × List ℕ × List ℕ) → Type 0
-Left Failure d before begun = Seen d.held.surface before.0 before.1 before.2 × (d.plan ≡ None) × (d.stopped ≡ false)
-Left (Crash how) d before begun =
+Left Fails d before begun = Seen d.held.surface before.0 before.1 before.2 × (d.plan ≡ None) × (d.stopped ≡ false)
+Left (Stops how) d before begun =
     Seen d.held.surface (pick how begun.0 begun.1 begun.2) (pick how begun.0 begun.1 begun.2) (pick how begun.0 begun.1 begun.2) × (d.plan ≡ None) × (d.stopped ≡ true)
 
 pub record Ends (plan : Option Plan) (k : ℕ) (d : DiskState) (before begun : List ℕ × List ℕ × List ℕ) : Type 0 where
@@ -86,7 +86,7 @@ pub record Ends (plan : Option Plan) (k : ℕ) (d : DiskState) (before begun : L
 
 module _ (plan : Option Plan) (k : ℕ) (d : DiskState) (read lost torn : List ℕ) (stage : Stage plan k d read lost torn) where
   meets_planned : (call : Call) → meets d call ≡ planned (less k plan) call
-  meets_planned call = ap (λ (b : Bool). if b then Some Failure else planned d.plan call) stage.up ∙ ap (λ (p : Option Plan). planned p call) stage.left
+  meets_planned call = ap (λ (b : Bool). if b then Some Fails else planned d.plan call) stage.up ∙ ap (λ (p : Option Plan). planned p call) stage.left
 
   pub step_write : (at : ℕ) (bytes : List ℕ) (new : DiskState) → Does d (Writes at bytes) None new → Stage plan (k + 1) new (put read at bytes) lost (put torn at (torn_half bytes))
   step_write at bytes new does = record {
@@ -111,16 +111,16 @@ module _ (plan : Option Plan) (k : ℕ) (d : DiskState) (read lost torn : List �
   failed_write : (at : ℕ) (bytes : List ℕ) (new : DiskState) (o : Option Mishap) → o ≡ planned (less k plan) (Writes at bytes) → IsSomeAnd o (λ mishap. SameState (failed mishap (Writes at bytes) d) new)
       → Ends plan k new (read, lost, torn) (put read at bytes, lost, put torn at (torn_half bytes))
   failed_write at bytes new None is does = absurd does
-  failed_write at bytes new (Some Failure) is does = record {
-    mishap = Failure;
-    met = meets_it k plan (Writes at bytes) Failure stage.waits (sym is);
+  failed_write at bytes new (Some Fails) is does = record {
+    mishap = Fails;
+    met = meets_it k plan (Writes at bytes) Fails stage.waits (sym is);
     left = (Seen-same d.held.surface new.held.surface read lost torn does.held.surface stage.seen, does.plan ∙ none_left d.stopped d.plan stage.up, does.stopped ∙ stage.up);
   }
-  failed_write at bytes new (Some (Crash how)) is does =
+  failed_write at bytes new (Some (Stops how)) is does =
       let w : Write = record { at = at; bytes = bytes } in
       record {
-        mishap = Crash how;
-        met = meets_it k plan (Writes at bytes) (Crash how) stage.waits (sym is);
+        mishap = Stops how;
+        met = meets_it k plan (Writes at bytes) (Stops how) stage.waits (sym is);
         left = (
           Seen-same (after_end how (after_write w d.held)).surface new.held.surface _ _ _ does.held.surface (Seen-end how (after_write w d.held) _ _ _ (Seen-write d.held.surface w read lost torn stage.seen)),
           does.plan,
@@ -133,14 +133,14 @@ module _ (plan : Option Plan) (k : ℕ) (d : DiskState) (read lost torn : List �
 
   failed_sync : (new : DiskState) (o : Option Mishap) → o ≡ planned (less k plan) Syncs → IsSomeAnd o (λ mishap. SameState (failed mishap Syncs d) new) → Ends plan k new (read, lost, torn) (read, lost, torn)
   failed_sync new None is does = absurd does
-  failed_sync new (Some Failure) is does = record {
-    mishap = Failure;
-    met = meets_it k plan Syncs Failure stage.waits (sym is);
+  failed_sync new (Some Fails) is does = record {
+    mishap = Fails;
+    met = meets_it k plan Syncs Fails stage.waits (sym is);
     left = (Seen-same d.held.surface new.held.surface read lost torn does.held.surface stage.seen, does.plan ∙ none_left d.stopped d.plan stage.up, does.stopped ∙ stage.up);
   }
-  failed_sync new (Some (Crash how)) is does = record {
-    mishap = Crash how;
-    met = meets_it k plan Syncs (Crash how) stage.waits (sym is);
+  failed_sync new (Some (Stops how)) is does = record {
+    mishap = Stops how;
+    met = meets_it k plan Syncs (Stops how) stage.waits (sym is);
     left = (Seen-same (after_end how d.held).surface new.held.surface _ _ _ does.held.surface (Seen-end how d.held read lost torn stage.seen), does.plan, does.stopped);
   }
 

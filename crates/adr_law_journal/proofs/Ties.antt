@@ -5,7 +5,7 @@ use Rattle.adr_io.specs.declared.Fault.{Fault as Cause}
 use Rattle.adr_io.specs.declared.Fault.TheVariants.{Failed as failed_call}
 use Rattle.adr_disk.specs.declared.memory.Crash.TheVariants.{Kept, Lost, Torn}
 use Rattle.adr_disk.specs.declared.memory.Mishap.{Mishap}
-use Rattle.adr_disk.specs.declared.memory.Mishap.TheVariants.{Failure, Crash}
+use Rattle.adr_disk.specs.declared.memory.Mishap.TheVariants.{Fails, Stops}
 use Rattle.adr_disk.specs.Disk.{put, Only, Writes, Syncs}
 use Rattle.adr_disk.proofs.Bytes.{Torn-put}
 use Rattle.adr_disk.specs.Memory.{DiskState, read_of, IsImage, torn_half, left_by, Does}
@@ -14,20 +14,21 @@ use Rattle.adr_disk.proofs.Outcomes.{IsImage-left_by}
 use Rattle.adr_model.specs.Store.{State}
 use Rattle.adr_model.specs.Change.{after}
 use Rattle.adr_model.specs.Lengths.{Log, log_version, change_length, is_due, checkpointed, log_after}
-use Rattle.adr_model.specs.Replica.{Pending, Failed, Fault, Stops, Fails as FailsCall, Plan, Replica, Device, Book, Went, Passed, Met, went, behind, moved, moves_of_commit, moves_of_start, standing_after, plan_after, logs_of_record, logs_of_checkpoint, logs_of_start, torn_log, recorded_on, checkpointed_on, commit_goes, device_after_commit}
+use Rattle.adr_disk.specs.declared.memory.Plan.{Plan}
+use Rattle.adr_model.specs.Replica.{Pending, Failed, Replica, Device, Book, Went, Passed, Met, went, behind, moved, moves_of_commit, moves_of_start, standing_after, plan_after, logs_of_record, logs_of_checkpoint, logs_of_start, torn_log, recorded_on, checkpointed_on, commit_goes, device_after_commit}
 use Rattle.adr_law_journal.specs.Log.{open_gate, record_of}
 use Rattle.adr_law_journal.specs.Areas.{Found, found, Started, IsFree, other_log}
 use Rattle.adr_law_journal.specs.Commits.{Commits, Checkpoints}
 use Rattle.adr_law_journal.specs.Due.{record_goes}
 use Rattle.adr_law_journal.specs.Kept.{Layout, starts, Rests}
 use Rattle.adr_law_journal.specs.Planned.{IsReadyToCommit, IsNextArea}
-use Rattle.adr_law_journal.specs.Replicas.{fault_of, plan_of, standing_of, IsRunning, read_found, safe_found, torn_found, Has, IsOn, committed, started, CommitLeads, StartLeads}
+use Rattle.adr_law_journal.specs.Replicas.{standing_of, IsRunning, read_found, safe_found, torn_found, Has, IsOn, committed, started, CommitLeads, StartLeads}
 use Rattle.adr_law_journal.proofs.NineCalls.{two_runs}
 use Rattle.adr_law_journal.proofs.Placing.{free_place, next_area, written_now}
 use Rattle.adr_law_journal.proofs.Recording.{torn_record, staged, opened_up}
 use Rattle.adr_law_journal.proofs.Settled.{stands}
 use Rattle.adr_law_journal.proofs.Stages.{Stage, step_write, step_sync, fail_write, fail_sync}
-use Rattle.adr_law_journal.proofs.Moves.{Three, all_of, three_of, three_after, Shows, Holds, Fails, passed_holds, failed_holds, met_fails, none_yet, torn_beside, rest_of}
+use Rattle.adr_law_journal.proofs.Moves.{Three, all_of, three_of, three_after, Shows, Holds, MeetsMishap, passed_holds, failed_holds, met_fails, none_yet, torn_beside, rest_of}
 use Rattle.adr_law_journal.proofs.Planned.{Selected, checkpoint_three, selected, unselected}
 
 -- ---- the four calls of a record
@@ -53,7 +54,7 @@ module _ (book : Book) (r : Replica) (p : Pending) (log : Log) (same : r.read �
   begun = (with_record, here, with_record)
 
   abbrev Agrees : ℕ → Mishap → Three State → Three State → Type 0
-  Agrees k m before begun = record_three book r p log (Met k (fault_of m)) ≡ three_after m before begun
+  Agrees k m before begun = record_three book r p log (Met k m) ≡ three_after m before begun
 
   quiet : three_of r.read r.safe (log, log) ≡ all_of here
   quiet = ap (λ (s : State). three_of s r.safe (log, log)) same ∙ rest_of r.safe log
@@ -62,28 +63,28 @@ module _ (book : Book) (r : Replica) (p : Pending) (log : Log) (same : r.read �
   settled = rest_of (after r.safe p.change) next
 
   at_0 : (m : Mishap) → Agrees 0 m (all_of here) (all_of here)
-  at_0 Failure = quiet
-  at_0 (Crash Kept) = quiet
-  at_0 (Crash Lost) = quiet
-  at_0 (Crash Torn) = quiet
+  at_0 Fails = quiet
+  at_0 (Stops Kept) = quiet
+  at_0 (Stops Lost) = quiet
+  at_0 (Stops Torn) = quiet
 
   at_1 : (m : Mishap) → Agrees 1 m (all_of here) (all_of here)
-  at_1 Failure = quiet
-  at_1 (Crash Kept) = quiet
-  at_1 (Crash Lost) = quiet
-  at_1 (Crash Torn) = quiet
+  at_1 Fails = quiet
+  at_1 (Stops Kept) = quiet
+  at_1 (Stops Lost) = quiet
+  at_1 (Stops Torn) = quiet
 
   at_2 : (m : Mishap) → Agrees 2 m (all_of here) begun
-  at_2 Failure = quiet
-  at_2 (Crash Kept) = settled
-  at_2 (Crash Lost) = quiet
-  at_2 (Crash Torn) = settled
+  at_2 Fails = quiet
+  at_2 (Stops Kept) = settled
+  at_2 (Stops Lost) = quiet
+  at_2 (Stops Torn) = settled
 
   at_3 : (m : Mishap) → Agrees 3 m begun begun
-  at_3 Failure = λ i. (with_record, here, found (after r.safe p.change) (torn_beside log next refl i))
-  at_3 (Crash Kept) = settled
-  at_3 (Crash Lost) = rest_of r.safe log
-  at_3 (Crash Torn) = settled
+  at_3 Fails = λ i. (with_record, here, found (after r.safe p.change) (torn_beside log next refl i))
+  at_3 (Stops Kept) = settled
+  at_3 (Stops Lost) = rest_of r.safe log
+  at_3 (Stops Torn) = settled
 
   module _ {H : Type 0} (l : Layout H State) (old new : DiskState) (body : List ℕ) (up : old.stopped ≡ false)
       (rests : Rests l r.safe log (read_of old.held.surface)) (only : Only (read_of old.held.surface) (IsImage old.held.surface))
@@ -142,14 +143,14 @@ module _ (book : Book) (r : Replica) (p : Pending) (log : Log) (same : r.read �
     stage_3 d e f does syncs opens = step_write old.plan 2 e staged_bytes staged_bytes staged_bytes (stage_2 d e does syncs) gate (open_gate ∷ []) f opens
 
     abbrev Goes : Option Cause → Type 0
-    Goes e = Holds (starts l) new (record_three book r p log (went (plan_of old.plan) 4)) Failed e (went (plan_of old.plan) 4)
+    Goes e = Holds (starts l) new (record_three book r p log (went old.plan 4)) Failed e (went old.plan 4)
 
     all_passed : Commits Does end written old None new → Goes None
     all_passed (mid, (d, w, s), (f, o, last)) =
         passed_holds (starts l) new (record_three book r p log) Failed old.plan 4 open_bytes with_record (step_sync old.plan 3 f open_bytes staged_bytes open_bytes (stage_3 d mid f w s o) new last) open_is (λ left. settled)
 
     abbrev Failing : Type 0
-    Failing = Fails (starts l) new (record_three book r p log) Failed old.plan 4
+    Failing = MeetsMishap (starts l) new (record_three book r p log) Failed old.plan 4
 
     one_failed : Commits Does end written old (Some failed_call) new → Failing
     one_failed (inl (inl w)) =
@@ -185,7 +186,7 @@ device_as logs g = record { read_log = logs.0; safe_log = logs.1; plan = plan_af
 
 behind_none : (g : Went) → behind 0 g ≡ g
 behind_none (Passed left) = refl
-behind_none (Met place fault) = let same : place - 0 ≡ place = omega arith in ap (λ (n : ℕ). Met n fault) same
+behind_none (Met place mishap) = let same : place - 0 ≡ place = omega arith in ap (λ (n : ℕ). Met n mishap) same
 
 module _ {H : Type 0} (l : Layout H State) (book : Book) (r : Replica) (p : Pending) (new : DiskState) where
   abbrev log : Log
@@ -203,7 +204,7 @@ module _ {H : Type 0} (l : Layout H State) (book : Book) (r : Replica) (p : Pend
   -- where no checkpoint is due
   module _ (old : DiskState) (body : List ℕ) (ready : IsReadyToCommit l r p body old) (undue : is_due log p.change ≡ false) where
     abbrev plain_goes : Went
-    plain_goes = went (plan_of old.plan) 4
+    plain_goes = went old.plan 4
 
     goes_plain : commit_goes r p ≡ plain_goes
     goes_plain =
@@ -249,14 +250,14 @@ module _ {H : Type 0} (l : Layout H State) (book : Book) (r : Replica) (p : Pend
     other_is : other_log log mid_log.place log_version (length area.image) ≡ mid_log
     other_is = next_area log r.safe.store (length area.image) area.is_long
 
-    goes_due : (g : Went) → went (plan_of old.plan) 5 ≡ g → commit_goes r p ≡ record_goes g
+    goes_due : (g : Went) → went old.plan 5 ≡ g → commit_goes r p ≡ record_goes g
     goes_due g is =
         ap (λ (b : Bool). let n : ℕ = if b then 5 else 0 in behind n (went r.device.plan (n + 4))) due
         ∙ two_runs r.device.plan
         ∙ ap (λ (q : Option Plan). record_goes (went q 5)) (sym ready.is_plan)
         ∙ ap record_goes is
 
-    device_due : (g : Went) → went (plan_of old.plan) 5 ≡ g → device_after_commit r p ≡ checkpointed_on log mid_log last_log g
+    device_due : (g : Went) → went old.plan 5 ≡ g → device_after_commit r p ≡ checkpointed_on log mid_log last_log g
     device_due g is =
         ap (λ (b : Bool).
         let before : Log = if b then mid_log else log in
@@ -272,7 +273,7 @@ module _ {H : Type 0} (l : Layout H State) (book : Book) (r : Replica) (p : Pend
           (subst (λ (w : List ℕ). Checkpoints Does mid_log.place w mid_log.second old None mid) area.is ran)
 
       abbrev left : Option Plan
-      left = plan_of mid.plan
+      left = mid.plan
 
       abbrev due_goes : Went
       due_goes = went left 4
@@ -289,34 +290,34 @@ module _ {H : Type 0} (l : Layout H State) (book : Book) (r : Replica) (p : Pend
           (record_failed book r p mid_log read_so l mid new body made.up rests_there made.only ready.follows ready.fits ready.is_long records) refl (goes_due (Passed left) made.goes) (device_due (Passed left) made.goes)
 
     -- or it failed
-    unmoved : (fault : Fault) → gone book r p (Met 0 fault) ≡ r
-    unmoved FailsCall = refl
+    unmoved : (mishap : Mishap) → gone book r p (Met 0 mishap) ≡ r
+    unmoved Fails = refl
     unmoved (Stops Kept) = refl
     unmoved (Stops Lost) = refl
     unmoved (Stops Torn) = refl
 
-    stand_as : (k : ℕ) (fault : Fault) → standing_after Failed (Met k fault) ≡ standing_after Failed (Met 0 fault)
-    stand_as k FailsCall = refl
+    stand_as : (k : ℕ) (mishap : Mishap) → standing_after Failed (Met k mishap) ≡ standing_after Failed (Met 0 mishap)
+    stand_as k Fails = refl
     stand_as k (Stops how) = refl
 
     pub checkpoint_failed : Checkpoints Does mid_log.place written mid_log.second old (Some failed_call) new → CommitLeads l book r p new (Some failed_call)
     checkpoint_failed ran =
         let fails = unselected l r.safe log mid_log.place log_version area.image old new ready.running ready.rests ready.synced free area.tells area.near
         (subst (λ (w : List ℕ). Checkpoints Does mid_log.place w mid_log.second old (Some failed_call) new) area.is ran) in
-        let g : Went = Met fails.place fails.fault in
+        let g : Went = Met fails.place fails.mishap in
         let none : fails.place - 5 ≡ 0 = omega (arith, fails.within) in
         let logs : Log × Log = logs_of_checkpoint log mid_log g in
         let shown = subst (λ (o : Log). Holds (starts l) new (checkpoint_three r.safe log o g) Failed (Some failed_call) g) other_is fails.holds in
-        let as_gone : three_of r.safe r.safe logs ≡ three_of (gone book r p (Met 0 fails.fault)).read (gone book r p (Met 0 fails.fault)).safe logs =
-        (λ i. three_of (sym read_so i) r.safe logs) ∙ (λ i. three_of (sym (unmoved fails.fault) i).read (sym (unmoved fails.fault) i).safe logs) in
-        leads (Some failed_call) (Met 0 fails.fault) g logs (subst (λ (t : Three State). Holds (starts l) new t Failed (Some failed_call) g) as_gone shown) (stand_as fails.place fails.fault)
-        (goes_due g fails.goes ∙ ap (λ (n : ℕ). Met n fails.fault) none) (device_due g fails.goes)
+        let as_gone : three_of r.safe r.safe logs ≡ three_of (gone book r p (Met 0 fails.mishap)).read (gone book r p (Met 0 fails.mishap)).safe logs =
+        (λ i. three_of (sym read_so i) r.safe logs) ∙ (λ i. three_of (sym (unmoved fails.mishap) i).read (sym (unmoved fails.mishap) i).safe logs) in
+        leads (Some failed_call) (Met 0 fails.mishap) g logs (subst (λ (t : Three State). Holds (starts l) new t Failed (Some failed_call) g) as_gone shown) (stand_as fails.place fails.mishap)
+        (goes_due g fails.goes ∙ ap (λ (n : ℕ). Met n fails.mishap) none) (device_due g fails.goes)
 
 -- ---- a start
 
 -- by whatever is found in bytes
 module _ (find : List ℕ → Started State) (book : Book) (r : Replica) (old new : DiskState) (up : old.stopped ≡ false)
-    (on : Has (λ (d : DiskState). find (read_of d.held.surface)) (λ (d : DiskState). find d.held.surface.synced) (λ (d : DiskState). find (left_by Torn d.held.surface)) (λ (d : DiskState). plan_of d.plan) old r) where
+    (on : Has (λ (d : DiskState). find (read_of d.held.surface)) (λ (d : DiskState). find d.held.surface.synced) (λ (d : DiskState). find (left_by Torn d.held.surface)) (λ (d : DiskState). d.plan) old r) where
   abbrev r0 : List ℕ
   r0 = read_of old.held.surface
 
@@ -340,18 +341,18 @@ module _ (find : List ℕ → Started State) (book : Book) (r : Replica) (old ne
   shown : Shows find r0 l0 t0 so_far
   shown = record { in_read = on.is_read; in_lost = on.is_safe; in_torn = on.is_torn }
 
-  agrees : (m : Mishap) → start_three (Met 0 (fault_of m)) ≡ three_after m so_far so_far
-  agrees Failure = refl
-  agrees (Crash Kept) = rest_of r.read r.device.read_log
-  agrees (Crash Lost) = rest_of r.safe r.device.safe_log
-  agrees (Crash Torn) = rest_of r.read (torn_log r.device.read_log r.device.safe_log)
+  agrees : (m : Mishap) → start_three (Met 0 m) ≡ three_after m so_far so_far
+  agrees Fails = refl
+  agrees (Stops Kept) = rest_of r.read r.device.read_log
+  agrees (Stops Lost) = rest_of r.safe r.device.safe_log
+  agrees (Stops Torn) = rest_of r.read (torn_log r.device.read_log r.device.safe_log)
 
   abbrev pub LeadsBy : Option Cause → Type 0
   LeadsBy e =
-      Has (λ (d : DiskState). find (read_of d.held.surface)) (λ (d : DiskState). find d.held.surface.synced) (λ (d : DiskState). find (left_by Torn d.held.surface)) (λ (d : DiskState). plan_of d.plan) new (started book r)
+      Has (λ (d : DiskState). find (read_of d.held.surface)) (λ (d : DiskState). find d.held.surface.synced) (λ (d : DiskState). find (left_by Torn d.held.surface)) (λ (d : DiskState). d.plan) new (started book r)
       × (standing_of e new.stopped r.standing ≡ (started book r).standing) × IsRunning e new.stopped
 
-  start_leads : (e : Option Cause) → Holds find new (start_three (went (plan_of old.plan) 1)) r.standing e (went (plan_of old.plan) 1) → LeadsBy e
+  start_leads : (e : Option Cause) → Holds find new (start_three (went old.plan 1)) r.standing e (went old.plan 1) → LeadsBy e
   start_leads e holds =
       let h = subst (λ (q : Option Plan). Holds find new (start_three (went q 1)) r.standing e (went q 1)) on.is_plan holds in
       (record { is_read = h.shows.in_read; is_safe = h.shows.in_lost; is_torn = h.shows.in_torn; is_plan = h.plan }, h.stands, h.running)

@@ -8,7 +8,7 @@ use Rattle.adr_model.specs.Store.{State}
 use Rattle.adr_model.specs.Change.{after}
 use Rattle.adr_model.specs.Lengths.{Log, log_version, image_length, change_length, checkpointed}
 use Rattle.adr_model.specs.Replica.{Pending, Replica, Went, Failed, standing_after, plan_after, torn_log}
-use Rattle.adr_law_journal.specs.Replicas.{plan_of, standing_of, IsRunning, read_found, safe_found}
+use Rattle.adr_law_journal.specs.Replicas.{standing_of, IsRunning, read_found, safe_found}
 use Rattle.adr_law_journal.specs.Areas.{found, Started, TellsArea}
 use Rattle.adr_law_journal.specs.Kept.{Layout, Rests}
 
@@ -17,7 +17,7 @@ pub record Leads {S : Type 0} (starts : List ℕ → Started S) (s : S) (logs : 
   pub is_read : starts (read_of new.held.surface) ≡ Ok (found s logs.0)
   pub is_safe : starts new.held.surface.synced ≡ Ok (found s logs.1)
   pub is_torn : starts (left_by Torn new.held.surface) ≡ Ok (found s (torn_log logs.0 logs.1))
-  pub is_plan : plan_of new.plan ≡ plan_after went
+  pub is_plan : new.plan ≡ plan_after went
   pub stands : standing_of e new.stopped Failed ≡ standing_after Failed went
   pub running : IsRunning e new.stopped
 
@@ -25,7 +25,7 @@ pub record Leads {S : Type 0} (starts : List ℕ → Started S) (s : S) (logs : 
 pub record IsReadyToCommit {H : Type 0} (l : Layout H State) (r : Replica) (p : Pending) (body : List ℕ) (disk : DiskState) : Type 0 where
   pub settled : read_found r ≡ safe_found r
   pub running : disk.stopped ≡ false
-  pub is_plan : plan_of disk.plan ≡ r.device.plan
+  pub is_plan : disk.plan ≡ r.device.plan
   pub rests : Rests l r.safe r.device.safe_log (read_of disk.held.surface)
   pub synced : Only (read_of disk.held.surface) (IsImage disk.held.surface)
   pub version : r.device.safe_log.version ≤ log_version

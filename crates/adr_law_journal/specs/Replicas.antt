@@ -2,22 +2,14 @@
 use Rattle.std.specs.Prelude.{◌≡◌, Bool, true, false, Option, Some, None, Ok, fold}
 use Rattle.adr_io.specs.declared.Fault.{Fault as Cause}
 use Rattle.adr_disk.specs.declared.memory.Mishap.{Mishap}
-use Rattle.adr_disk.specs.declared.memory.Mishap.TheVariants.{Failure, Crash}
-use Rattle.adr_disk.specs.declared.memory.Plan.{Plan as DiskPlan}
+use Rattle.adr_disk.specs.declared.memory.Mishap.TheVariants.{Fails, Stops}
+use Rattle.adr_disk.specs.declared.memory.Plan.{Plan}
 use Rattle.adr_disk.specs.declared.memory.Crash.TheVariants.{Torn}
 use Rattle.adr_disk.specs.Memory.{DiskState, read_of, left_by}
 use Rattle.adr_model.specs.Store.{State}
-use Rattle.adr_model.specs.Replica.{Pending, Standing, Up, Down, Failed, Fault, Stops, Fails, Plan, Replica, Book, moved, moves_of_commit, moves_of_start, standing_after, torn_log, commit_goes, start_goes, device_after_commit, device_after_start}
+use Rattle.adr_model.specs.Replica.{Pending, Standing, Up, Down, Failed, Replica, Book, moved, moves_of_commit, moves_of_start, standing_after, torn_log, commit_goes, start_goes, device_after_commit, device_after_start}
 use Rattle.adr_law_journal.specs.Areas.{Found, found, Started}
 use Rattle.adr_law_journal.specs.Kept.{Layout, starts}
-
-abbrev pub fault_of : Mishap → Fault
-fault_of Failure = Fails
-fault_of (Crash how) = Stops how
-
-abbrev pub plan_of : Option DiskPlan → Option Plan
-plan_of None = None
-plan_of (Some plan) = Some (record { calls = plan.calls; fault = fault_of plan.mishap })
 
 -- how a controller stands after a call that passed or failed: the disk stopped within it, or it is as faulty as before
 abbrev pub standing_of : Option Cause → Bool → Standing → Standing
@@ -51,7 +43,7 @@ pub record Has {K : Type 0} (read safe torn : K → Started State) (plan : K →
 abbrev pub IsOn : {H : Type 0} → Layout H State → Replica → DiskState → Type 0
 IsOn l r d =
     Has (λ (d : DiskState). starts l (read_of d.held.surface)) (λ (d : DiskState). starts l d.held.surface.synced)
-    (λ (d : DiskState). starts l (left_by Torn d.held.surface)) (λ (d : DiskState). plan_of d.plan) d r
+    (λ (d : DiskState). starts l (left_by Torn d.held.surface)) (λ (d : DiskState). d.plan) d r
 
 -- the replica after a commit, and after a start
 abbrev pub committed : Book → Replica → Pending → Replica

@@ -13,7 +13,7 @@ ghost use Rattle.adr_law_journal.specs.Kept.{Layout, starts, Rests};
 ghost use Rattle.adr_law_journal.specs.Commits.{Commits, Checkpoints};
 ghost use Rattle.adr_law_journal.specs.Due.{TwoRuns};
 ghost use Rattle.adr_law_journal.specs.Planned.{Leads, IsReadyToCommit, IsNextArea};
-ghost use Rattle.adr_law_journal.specs.Replicas.{plan_of, IsOn, CommitLeads, StartLeads};
+ghost use Rattle.adr_law_journal.specs.Replicas.{IsOn, CommitLeads, StartLeads};
 
 /// Whatever the plan, the calls of a commit leave on a disk what the moves of a commit leave of a replica: what a start
 /// would find, what is safe, the plan, and how the controller stands. They are the four of its record; or, where a
@@ -42,9 +42,9 @@ pub fn a_checkpoint_goes_as_planned()
         → old.stopped ≡ false → Rests l s log (read_of old.held.surface) → Only (read_of old.held.surface) (IsImage old.held.surface)
         → IsFree log place (length image + 1) → TellsArea (l.area l.told) place image version s → place < 2 ^ 64
         → (Checkpoints Does place (image ++ 0 ∷ []) (not log.second) old None new
-        → Leads (starts l) s (logs_of_checkpoint log (other_log log place version (length image)) (went (plan_of old.plan) 5)) (went (plan_of old.plan) 5) None new)
+        → Leads (starts l) s (logs_of_checkpoint log (other_log log place version (length image)) (went old.plan 5)) (went old.plan 5) None new)
         × (Checkpoints Does place (image ++ 0 ∷ []) (not log.second) old (Some failed_call) new
-        → Leads (starts l) s (logs_of_checkpoint log (other_log log place version (length image)) (went (plan_of old.plan) 5)) (went (plan_of old.plan) 5) (Some failed_call) new) }
+        → Leads (starts l) s (logs_of_checkpoint log (other_log log place version (length image)) (went old.plan 5)) (went old.plan 5) (Some failed_call) new) }
 {}
 
 /// How the four calls of a record go behind the five of a checkpoint is how the last four of nine go.

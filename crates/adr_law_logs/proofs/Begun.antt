@@ -3,7 +3,7 @@ use Rattle.std.proofs.Common.{◌≡◌, inl, inr, ℕ, ◌≤◌, List, [], Boo
 use Rattle.adr_model.specs.Member.{Member, Each}
 use Rattle.adr_model.specs.Update.{Identifier, Update, inv_of}
 use Rattle.adr_model.specs.Store.{Held, State}
-use Rattle.adr_model.specs.LocalLog.{LocalLog, no_log, last_usn, rows_at, IsCut, IsKept}
+use Rattle.adr_model.specs.LocalLog.{LocalLog, no_log, last_usn, rows_at, IsBoundary, IsKept}
 use Rattle.adr_model.specs.Replica.{Book, log_of, begun}
 use Rattle.adr_model.specs.Sound.{last_of, IsOfOneChange, IsSoundBook}
 use Rattle.adr_law_knowledge.proofs.Lists.{no_members}
@@ -36,7 +36,7 @@ module _ (s : Book) (d : State) (fresh : log_of s d.inv ≡ no_log) (all : Each 
     newer = λ u m. inl m;
     rising = each_entry s.logs no_log d.inv log (λ j h. last_of s j ≤ last_usn h) (subst (λ n. n ≤ d.store.usn) (sym (ap last_usn fresh)) (omega arith)) (λ j. omega arith);
     stable = λ j usn le. each_entry s.logs no_log d.inv log (λ i h. usn ≤ last_of s i → rows_at h usn ≡ rows_at (log_of s i) usn) (λ l. rows usn l) (λ i l. refl) j le;
-    cuts = λ j usn le cut. each_entry s.logs no_log d.inv log (λ i h. usn ≤ last_of s i → IsCut (log_of s i) usn → IsCut h usn) (λ l c. cuts usn l) (λ i l c. c) j le cut;
+    boundaries = λ j usn le boundary. each_entry s.logs no_log d.inv log (λ i h. usn ≤ last_of s i → IsBoundary (log_of s i) usn → IsBoundary h usn) (λ l c. boundaries usn l) (λ i l c. c) j le boundary;
   }
     where
       log : LocalLog
@@ -45,8 +45,8 @@ module _ (s : Book) (d : State) (fresh : log_of s d.inv ≡ no_log) (all : Each 
       rows : (usn : ℕ) → usn ≤ last_of s d.inv → rows_at log usn ≡ rows_at (log_of s d.inv) usn
       rows usn le = nothing_stands_at_0 d.store.usn d.store.rows usn all (began_at_0 usn le) ∙ sym (ap (λ (h : LocalLog). rows_at h usn) fresh ∙ nothing_stood usn)
 
-      cuts : (usn : ℕ) → usn ≤ last_of s d.inv → IsCut log usn
-      cuts usn le = record { start = inr (λ x m. omega (arith, (all x m).0, began_at_0 usn le)); changes = λ c m. absurd m }
+      boundaries : (usn : ℕ) → usn ≤ last_of s d.inv → IsBoundary log usn
+      boundaries usn le = record { start = inr (λ x m. omega (arith, (all x m).0, began_at_0 usn le)); changes = λ c m. absurd m }
 
   -- the log that begins had no change before
   changes_stay : (j : Identifier) (u v : Update) → IsOfOneChange (log_of s j) u v → IsOfOneChange (log_of (begun s d) j) u v

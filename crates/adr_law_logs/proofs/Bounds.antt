@@ -5,7 +5,7 @@ use Rattle.std.proofs.lemmas.Bool.Decides.{leb_tells}
 use Rattle.adr_model.specs.Member.{Member, Each}
 use Rattle.adr_model.specs.Store.{Held}
 use Rattle.adr_model.specs.Change.{Change, held_of, rows_after}
-use Rattle.adr_model.specs.LocalLog.{LocalLog, last_usn, where_made, after_changes, rows_at, IsCut, Rises, IsKept}
+use Rattle.adr_model.specs.LocalLog.{LocalLog, last_usn, where_made, after_changes, rows_at, IsBoundary, Rises, IsKept}
 use Rattle.adr_law_logs.proofs.Units.{change_from}
 
 abbrev pub newest : ℕ → List Change → ℕ
@@ -53,8 +53,8 @@ rows_when_all_is_read h usn kept le = sym (same_within _ _ h.changes (last_usn h
     start : start_at h.start_usn h.start_rows (last_usn h) ≡ start_at h.start_usn h.start_rows usn
     start = start_taken h.start_usn h.start_rows (last_usn h) bound.0 ∙ sym (start_taken h.start_usn h.start_rows usn (omega (arith, bound.0, le)))
 
-pub cut_when_all_is_read : (h : LocalLog) (usn : ℕ) → IsKept h → last_usn h ≤ usn → IsCut h usn
-cut_when_all_is_read h usn kept le = record { start = inl (omega (arith, bound.0, le)); changes = λ c i. inl (omega (arith, bound.1 c i, le)) }
+pub boundary_when_all_is_read : (h : LocalLog) (usn : ℕ) → IsKept h → last_usn h ≤ usn → IsBoundary h usn
+boundary_when_all_is_read h usn kept le = record { start = inl (omega (arith, bound.0, le)); changes = λ c i. inl (omega (arith, bound.1 c i, le)) }
   where
     bound : (h.start_usn ≤ last_usn h) × Each (λ (c : Change). c.usn ≤ last_usn h) h.changes
     bound = rises_within h.start_usn h.changes kept.changes
@@ -79,7 +79,7 @@ rows_are_within h usn kept x i = local_within (start_at h.start_usn h.start_rows
     start : Each (IsIn usn) (start_at h.start_usn h.start_rows usn)
     start y j = let s = start_from h.start_usn h.start_rows usn y j in let l = kept.start y s.1 in (l.0, omega (arith, l.1, s.0))
 
-pub nothing_at_0_is_split : (h : LocalLog) → IsKept h → IsCut h 0
+pub nothing_at_0_is_split : (h : LocalLog) → IsKept h → IsBoundary h 0
 nothing_at_0_is_split h kept = record { start = inr (λ x i. omega (arith, (kept.start x i).0)); changes = λ c i. inr (λ x w. above c i x w) }
   where
     above : (c : Change) → Member c h.changes → (x : Held) → Member x (held_of c.writes) → 0 < x.local

@@ -27,20 +27,20 @@ empty_is_formed = record {
   limits = record { objects = omega arith; links = omega arith; marks = omega arith };
 }
 
-empty_is_sound : (sc : Book) → IsSoundBook sc → IsSoundStore sc (empty_store 1)
-empty_is_sound sc book = record {
+empty_is_sound : (book : Book) → IsSoundBook book → IsSoundStore book (empty_store 1)
+empty_is_sound book sound_book = record {
   known = λ u m. absurd m;
   bounded = λ i. omega arith;
-  covered = λ u m c. absurd (omega (arith, (book.once u m).0, c));
+  covered = λ u m c. absurd (omega (arith, (sound_book.once u m).0, c));
   formed = empty_is_formed;
   closed = λ l r m. absurd m;
   classes = λ u m. absurd m;
   marks = λ k m. absurd m;
 }
 
-pub new_is_sound : (sc : Book) (dsa inv : Identifier) → IsSoundBook sc → log_of sc inv ≡ no_log
-    → IsLater sc (begun sc (empty_state dsa inv)) × (IsSoundBook (begun sc (empty_state dsa inv)) × IsSoundState (begun sc (empty_state dsa inv)) (empty_state dsa inv))
-new_is_sound sc dsa inv book fresh = (
-  begun_later sc (empty_state dsa inv) fresh (λ x m. absurd m),
-  (begun_sound sc (empty_state dsa inv) fresh (λ x m. absurd m) (λ x m. absurd m) book, woken_state sc (empty_store 1) dsa inv book (empty_is_sound sc book) fresh refl (omega arith)),
+pub new_is_sound : (book : Book) (dsa inv : Identifier) → IsSoundBook book → log_of book inv ≡ no_log
+    → IsLater book (begun book (empty_state dsa inv)) × (IsSoundBook (begun book (empty_state dsa inv)) × IsSoundState (begun book (empty_state dsa inv)) (empty_state dsa inv))
+new_is_sound book dsa inv sound_book fresh = (
+  begun_later book (empty_state dsa inv) fresh (λ x m. absurd m),
+  (begun_sound book (empty_state dsa inv) fresh (λ x m. absurd m) (λ x m. absurd m) sound_book, woken_state book (empty_store 1) dsa inv sound_book (empty_is_sound book sound_book) fresh refl (omega arith)),
 )

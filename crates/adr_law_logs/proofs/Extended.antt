@@ -5,7 +5,7 @@ use Rattle.adr_model.specs.Member.{Member, Each}
 use Rattle.adr_model.specs.Store.{Held}
 use Rattle.adr_model.specs.Change.{Change, Written, held_of, rows_after}
 use Rattle.adr_stamp.specs.declared.Oid.{Oid}
-use Rattle.adr_model.specs.LocalLog.{LocalLog, last_usn, where_made, rows_at, IsCut, Follows, IsKept}
+use Rattle.adr_model.specs.LocalLog.{LocalLog, last_usn, where_made, rows_at, IsBoundary, Follows, IsKept}
 use Rattle.adr_model.specs.Replica.{with_change}
 use Rattle.adr_model.specs.LocalLog.{first_log}
 use Rattle.adr_law_logs.proofs.Bounds.{made, rows_when_all_is_read}
@@ -30,8 +30,8 @@ past_rows_stay h c usn next le = by (leb_tells c.usn usn)
     by (inl taken) = ap (λ b. where_made b c rows) taken.0 ∙ idle_change c rows (next.idle (omega (arith, taken.1, le)))
     by (inr skip) = ap (λ b. where_made b c rows) skip.0
 
-pub past_cuts_stay : (h : LocalLog) (c : Change) (usn : ℕ) → Follows (last_usn h) c → usn ≤ last_usn h → IsCut h usn → IsCut (with_change h c) usn
-past_cuts_stay h c usn next le cut = record { start = cut.start; changes = λ d i. ⊎_elim (λ (e : d ≡ c). inr (λ x j. above x (subst (λ (z : Change). Member x (held_of z.writes)) e j))) (λ old. cut.changes d old) i }
+pub past_boundaries_stay : (h : LocalLog) (c : Change) (usn : ℕ) → Follows (last_usn h) c → usn ≤ last_usn h → IsBoundary h usn → IsBoundary (with_change h c) usn
+past_boundaries_stay h c usn next le boundary = record { start = boundary.start; changes = λ d i. ⊎_elim (λ (e : d ≡ c). inr (λ x j. above x (subst (λ (z : Change). Member x (held_of z.writes)) e j))) (λ old. boundary.changes d old) i }
   where
     above : (x : Held) → Member x (held_of c.writes) → usn < x.local
     above x j = omega (arith, le, next.above x j)

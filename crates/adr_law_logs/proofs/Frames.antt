@@ -16,7 +16,7 @@ use Rattle.adr_law_knowledge.proofs.Raised.{covered_before as raised_covers}
 use Rattle.adr_law_logs.specs.Later.{IsLater}
 
 pub later_itself : (s : Book) → IsLater s s
-later_itself s = record { kept = λ u m. m; newer = λ u m. inl m; rising = λ i. omega arith; stable = λ i usn le. refl; cuts = λ i usn le cut. cut }
+later_itself s = record { kept = λ u m. m; newer = λ u m. inl m; rising = λ i. omega arith; stable = λ i usn le. refl; boundaries = λ i usn le boundary. boundary }
 
 pub later_on : (s t v : Book) → IsLater s t → IsLater t v → IsLater s v
 later_on s t v l k = record {
@@ -24,7 +24,7 @@ later_on s t v l k = record {
   newer = λ u m. ⊎_elim (λ old. l.newer u old) (λ new. inr (omega (arith, new, l.rising (inv_of u)))) (k.newer u m);
   rising = λ i. omega (arith, l.rising i, k.rising i);
   stable = λ i usn le. k.stable i usn (omega (arith, le, l.rising i)) ∙ l.stable i usn le;
-  cuts = λ i usn le cut. k.cuts i usn (omega (arith, le, l.rising i)) (l.cuts i usn le cut);
+  boundaries = λ i usn le boundary. k.boundaries i usn (omega (arith, le, l.rising i)) (l.boundaries i usn le boundary);
 }
 
 pub more_issued : (s t : Book) → IsLater s t → (k : Knowledge) (u : Update) → Reflects s.issued k u → Reflects t.issued k u
@@ -35,18 +35,18 @@ pub covered_before : (s t : Book) → IsLater s t → (V : Numbers) → IsBounde
 covered_before s t l V b u m c = ⊎_elim (λ old. old) (λ new. absurd (omega (arith, new, c, b (inv_of u)))) (l.newer u m)
 
 -- an object that was issued is born where it was: a vector that is raised at the own identifier covers no further birth
-pub born_before : (sc : Book) (s : State) (usn : ℕ) → IsSoundBook sc → IsSoundState sc s → (r : Update) → Member r sc.issued → (o : Oid) → Member o (ends r.key)
+pub born_before : (book : Book) (s : State) (usn : ℕ) → IsSoundBook book → IsSoundState book s → (r : Update) → Member r book.issued → (o : Oid) → Member o (ends r.key)
     → CoversBirth (at (raised s.store.vector s.inv usn)) o → CoversBirth (at s.store.vector) o
-born_before sc s usn book state r m o n born = raised_covers s.store.vector s.inv usn o.birth.inv o.birth.usn born within
+born_before book s usn sound_book state r m o n born = raised_covers s.store.vector s.inv usn o.birth.inv o.birth.usn born within
   where
-    b : (u : Update) × Member u sc.issued × IsBirthOf o u
-    b = book.born r m o n
+    b : (u : Update) × Member u book.issued × IsBirthOf o u
+    b = sound_book.born r m o n
 
     is : (inv_of b.0 ≡ o.birth.inv) × (usn_of b.0 ≡ o.birth.usn)
     is = birth_is o b.0 b.2.1
 
     within : o.birth.inv ≡ s.inv → o.birth.usn ≤ at s.store.vector s.inv
-    within e = omega (arith, (book.once b.0 b.1).1, is.1, state.formed.own, state.last, ap (last_of sc) (is.0 ∙ e))
+    within e = omega (arith, (sound_book.once b.0 b.1).1, is.1, state.formed.own, state.last, ap (last_of book) (is.0 ∙ e))
 
 pub bounded_later : (s t : Book) → IsLater s t → (V : Numbers) → IsBounded s V → IsBounded t V
 bounded_later s t l V b i = omega (arith, b i, l.rising i)
@@ -55,7 +55,7 @@ pub mark_later : (s t : Book) → IsLater s t → (k : Knowledge) (i : Identifie
 mark_later s t l k i m is = record {
   ordered = is.ordered;
   seen = omega (arith, is.seen, l.rising i);
-  cut = l.cuts i m.seen is.seen is.cut;
+  boundary = l.boundaries i m.seen is.seen is.boundary;
   watermark = λ x mem below. more_issued s t l k x.update
       (is.watermark x (subst (λ (rows : List Held). Member x rows) same mem) (subst (λ (rows : List Held). IsBelow rows m x) same below));
 }

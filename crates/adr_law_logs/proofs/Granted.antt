@@ -18,15 +18,15 @@ use Rattle.adr_law_logs.proofs.Served.{begins, reply_is_sound}
 nothing_lacks : (s : State) (q : Request) → serve_refusal s q ≡ None → at_most s.store.purged q.vector ≡ true
 nothing_lacks s q h = no_gap (λ gap. TooOld gap.0 gap.2 gap.1) s.store.purged q.vector (none_there (serve_refusals s q) h _ (inr (inr (inr (inr (inr (inl refl)))))))
 
-pub served_is_sound : (sc : Book) (s : State) (q : Request) (now : ℕ) (r : Reply) → IsSoundBook sc → IsSoundState sc s → IsSoundRequest sc q → serve s q now ≡ Ok r → IsSoundReply sc r
-served_is_sound sc s q now r book state request e = subst (IsSoundReply sc) t.1 (reply_is_sound sc s q now book state request (nothing_lacks s q t.0))
+pub served_is_sound : (book : Book) (s : State) (q : Request) (now : ℕ) (r : Reply) → IsSoundBook book → IsSoundState book s → IsSoundRequest book q → serve s q now ≡ Ok r → IsSoundReply book r
+served_is_sound book s q now r sound_book state request e = subst (IsSoundReply book) t.1 (reply_is_sound book s q now sound_book state request (nothing_lacks s q t.0))
   where
     t : (serve_refusal s q ≡ None) × (reply_to s q now ≡ r)
     t = answered (serve_refusal s q) (reply_to s q now) r e
 
 -- no more is shown of this incarnation than it has done
-pub shown_within : (sc : Book) (s : State) (q : Request) → IsSoundState sc s → IsSoundRequest sc q → shown_by s q ≤ s.store.usn
-shown_within sc s q state request = let b = (begins sc s q state request).1 in omega (arith, request.bounded s.inv, state.last, b)
+pub shown_within : (book : Book) (s : State) (q : Request) → IsSoundState book s → IsSoundRequest book q → shown_by s q ≤ s.store.usn
+shown_within book s q state request = let b = (begins book s q state request).1 in omega (arith, request.bounded s.inv, state.last, b)
 
 -- ---- what a refusal is
 
@@ -61,11 +61,11 @@ abbrev is_rollback : ServeRefusal → Bool
 is_rollback (RolledBack inv mine shown) = true
 is_rollback _ = false
 
-pub no_rollback : (sc : Book) (s : State) (q : Request) (now : ℕ) (inv : List ℕ) (mine shown : ℕ) → IsSoundState sc s → IsSoundRequest sc q → serve s q now ≢ Err (RolledBack inv mine shown)
-no_rollback sc s q now inv mine shown state request e = true≢false (serve_refusal_is harmless s q now refl refl refl within refl (mapped_is _ harmless (λ gap. refl) (first_gap s.store.purged q.vector)) (RolledBack inv mine shown) e)
+pub no_rollback : (book : Book) (s : State) (q : Request) (now : ℕ) (inv : List ℕ) (mine shown : ℕ) → IsSoundState book s → IsSoundRequest book q → serve s q now ≢ Err (RolledBack inv mine shown)
+no_rollback book s q now inv mine shown state request e = true≢false (serve_refusal_is harmless s q now refl refl refl within refl (mapped_is _ harmless (λ gap. refl) (first_gap s.store.purged q.vector)) (RolledBack inv mine shown) e)
   where
     harmless : ServeRefusal → Type 0
     harmless x = is_rollback x ≡ false
 
     within : IfSome (then_some (nat_lt s.store.usn (shown_by s q)) (RolledBack s.inv s.store.usn (shown_by s q))) harmless
-    within = none_is harmless _ (unmet _ _ (le-ltb s.store.usn (shown_by s q) (shown_within sc s q state request)))
+    within = none_is harmless _ (unmet _ _ (le-ltb s.store.usn (shown_by s q) (shown_within book s q state request)))

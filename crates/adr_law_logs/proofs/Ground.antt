@@ -129,8 +129,8 @@ module _ (s : State) (q : Request) (now : ℕ) (alone : AreAlone s.store.rows) w
   ground x m below = ⊎_elim (λ c. inl c) (λ y. ⊎_elim (λ b. inr (inr b)) (λ i. of_candidate x i (length sent == length all) refl below) y) (unseen_or_not rows from q.vector x m)
 
 -- the same, of the log whose rows the state has
-pub ground_of_log : (sc : Book) (s : State) (q : Request) (now : ℕ) → s.store.rows ≡ rows_at (log_of sc s.inv) s.store.usn → AreAlone s.store.rows → CoversItsGround (reply_to s q now) (log_of sc s.inv)
-ground_of_log sc s q now same alone = subst (λ (rs : List Held). Each (λ x. IsBelow rs r.to x → Covers (at r.asked) x.update ⊎ (IsSent r x.update ⊎ IsBelow rs r.from x)) rs) logged (ground s q now alone)
+pub ground_of_log : (book : Book) (s : State) (q : Request) (now : ℕ) → s.store.rows ≡ rows_at (log_of book s.inv) s.store.usn → AreAlone s.store.rows → CoversItsGround (reply_to s q now) (log_of book s.inv)
+ground_of_log book s q now same alone = subst (λ (rs : List Held). Each (λ x. IsBelow rs r.to x → Covers (at r.asked) x.update ⊎ (IsSent r x.update ⊎ IsBelow rs r.from x)) rs) logged (ground s q now alone)
   where
     r : Reply
     r = reply_to s q now
@@ -139,5 +139,5 @@ ground_of_log sc s q now same alone = subst (λ (rs : List Held). Each (λ x. Is
     moment true = refl
     moment false = refl
 
-    logged : s.store.rows ≡ rows_at (log_of sc s.inv) r.to.seen
-    logged = same ∙ ap (rows_at (log_of sc s.inv)) (sym (moment _))
+    logged : s.store.rows ≡ rows_at (log_of book s.inv) r.to.seen
+    logged = same ∙ ap (rows_at (log_of book s.inv)) (sym (moment _))

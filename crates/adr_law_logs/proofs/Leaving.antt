@@ -11,7 +11,7 @@ use Rattle.adr_vector.proofs.Joining.{at-raised, at-joined}
 use Rattle.adr_model.specs.Member.{Member, Each}
 use Rattle.adr_model.specs.Update.{Identifier, Update, inv_of, usn_of}
 use Rattle.adr_model.specs.Reflects.{Numbers, Covers, knowledge_of, Reflects}
-use Rattle.adr_model.specs.Store.{Kept, State}
+use Rattle.adr_model.specs.Store.{PartnerMark, State}
 use Rattle.adr_model.specs.Change.{held_of, rows_after, with_mark, after}
 use Rattle.adr_model.specs.LocalLog.{LocalLog, no_log, last_usn, rows_at, Follows}
 use Rattle.adr_model.specs.Replica.{Pending, issued_by, Book, log_of, with_change, recorded}
@@ -26,14 +26,14 @@ use Rattle.adr_law_logs.proofs.Recorded.{recorded_later}
 use Rattle.adr_law_logs.proofs.Tables.{entry_from, entry_itself}
 
 -- a fact of what is kept, and of a mark that comes, is one of all that is kept then
-pub each_mark : (P : Kept → Type 0) (o : Option (Identifier × Kept)) (marks : List (Identifier × Kept)) → IfSome o (λ m. P m.1) → Each (λ m. P m.1) marks → Each (λ m. P m.1) (with_mark o marks)
+pub each_mark : (P : PartnerMark → Type 0) (o : Option (Identifier × PartnerMark)) (marks : List (Identifier × PartnerMark)) → IfSome o (λ m. P m.1) → Each (λ m. P m.1) marks → Each (λ m. P m.1) (with_mark o marks)
 each_mark P None marks new old m n = old m n
-each_mark P (Some x) marks new old m n = ⊎_elim (λ is. subst (λ (t : Identifier × Kept). P t.1) (sym is) new) (λ j. old m j) (entry_from identifier_order exact_bytes marks x.0 x.1 m n)
+each_mark P (Some x) marks new old m n = ⊎_elim (λ is. subst (λ (t : Identifier × PartnerMark). P t.1) (sym is) new) (λ j. old m j) (entry_from identifier_order exact_bytes marks x.0 x.1 m n)
 
-module _ (sc : Book) (s : State) (p : Pending) (book : IsSoundBook sc) (state : IsSoundState sc s)
-    (follows : Follows (last_of sc s.inv) p.change) (own : AreIssuedBy sc s.inv p.change (issued_by p.call p.change)) (leaves : Leaves sc s p) where
+module _ (book : Book) (s : State) (p : Pending) (sound_book : IsSoundBook book) (state : IsSoundState book s)
+    (follows : Follows (last_of book s.inv) p.change) (own : AreIssuedBy book s.inv p.change (issued_by p.call p.change)) (leaves : Leaves book s p) where
   abbrev next : Book
-  next = recorded sc s.inv p
+  next = recorded book s.inv p
 
   abbrev d : State
   d = after s p.change
@@ -47,11 +47,11 @@ module _ (sc : Book) (s : State) (p : Pending) (book : IsSoundBook sc) (state : 
   abbrev W : Numbers
   W = at d.store.vector
 
-  later : IsLater sc next
-  later = recorded_later sc s.inv p follows own
+  later : IsLater book next
+  later = recorded_later book s.inv p follows own
 
-  log : log_of next s.inv ≡ with_change (log_of sc s.inv) p.change
-  log = entry_itself sc.logs no_log s.inv (with_change (log_of sc s.inv) p.change)
+  log : log_of next s.inv ≡ with_change (log_of book s.inv) p.change
+  log = entry_itself book.logs no_log s.inv (with_change (log_of book s.inv) p.change)
 
   last : last_of next s.inv ≡ p.change.usn
   last = ap last_usn log
@@ -73,38 +73,38 @@ module _ (sc : Book) (s : State) (p : Pending) (book : IsSoundBook sc) (state : 
       by false is = omega (arith, elsewhere i is, state.store.bounded i, leaves.bounded i, later.rising i)
 
   -- what the vector covered was taken, and what was joined in is taken now
-  taken : (u : Update) → Member u sc.issued → Covers V u ⊎ Covers J u → Reflects next.issued (knowledge_of d.store) u
-  taken u m (inl c) = more_issued sc next later (knowledge_of d.store) u (leaves.keeps u (state.store.covered u m c))
-  taken u m (inr c) = more_issued sc next later (knowledge_of d.store) u (leaves.carried u m c)
+  taken : (u : Update) → Member u book.issued → Covers V u ⊎ Covers J u → Reflects next.issued (knowledge_of d.store) u
+  taken u m (inl c) = more_issued book next later (knowledge_of d.store) u (leaves.keeps u (state.store.covered u m c))
+  taken u m (inr c) = more_issued book next later (knowledge_of d.store) u (leaves.carried u m c)
 
   covered : Each (λ u. Covers W u → Reflects next.issued (knowledge_of d.store) u) next.issued
-  covered u m c = ⊎_elim (λ old. taken u old (by old (is_eq (identifier_order (inv_of u) s.inv)) refl)) (λ new. more_issued sc next later (knowledge_of d.store) u (leaves.issued u new))
-      (member_of_either sc.issued (issued_by p.call p.change) u m)
+  covered u m c = ⊎_elim (λ old. taken u old (by old (is_eq (identifier_order (inv_of u) s.inv)) refl)) (λ new. more_issued book next later (knowledge_of d.store) u (leaves.issued u new))
+      (member_of_either book.issued (issued_by p.call p.change) u m)
     where
       either : Tells (usn_of u) (V (inv_of u)) → W (inv_of u) ≡ max (V (inv_of u)) (J (inv_of u)) → Covers V u ⊎ Covers J u
       either (inl within) e = inl within.1
       either (inr above) e = inr (omega (arith, above.1, c, e))
 
-      by : Member u sc.issued → (b : Bool) → is_eq (identifier_order (inv_of u) s.inv) ≡ b → Covers V u ⊎ Covers J u
-      by old true is = inl (omega (arith, (book.once u old).1, ap (last_of sc) (same_from_test (inv_of u) s.inv is), ap V (same_from_test (inv_of u) s.inv is), state.last, state.formed.own))
+      by : Member u book.issued → (b : Bool) → is_eq (identifier_order (inv_of u) s.inv) ≡ b → Covers V u ⊎ Covers J u
+      by old true is = inl (omega (arith, (sound_book.once u old).1, ap (last_of book) (same_from_test (inv_of u) s.inv is), ap V (same_from_test (inv_of u) s.inv is), state.last, state.formed.own))
       by old false is = either (leb_tells (usn_of u) (V (inv_of u))) (elsewhere (inv_of u) is)
 
-  mark_is : (k : Kept) → IsSoundMark sc (knowledge_of s.store) k.inv k.mark → IsSoundMark next (knowledge_of d.store) k.inv k.mark
-  mark_is k is = mark_later sc next later (knowledge_of d.store) k.inv k.mark (record {
+  mark_is : (k : PartnerMark) → IsSoundMark book (knowledge_of s.store) k.inv k.mark → IsSoundMark next (knowledge_of d.store) k.inv k.mark
+  mark_is k is = mark_later book next later (knowledge_of d.store) k.inv k.mark (record {
     ordered = is.ordered;
     seen = is.seen;
-    cut = is.cut;
+    boundary = is.boundary;
     watermark = λ x m below. leaves.keeps x.update (is.watermark x m below);
   })
 
-  new_mark : (o : Option (Identifier × Kept)) → IfSome o (λ m. IsSoundMark sc (knowledge_of d.store) m.1.inv m.1.mark) → IfSome o (λ m. IsSoundMark next (knowledge_of d.store) m.1.inv m.1.mark)
+  new_mark : (o : Option (Identifier × PartnerMark)) → IfSome o (λ m. IsSoundMark book (knowledge_of d.store) m.1.inv m.1.mark) → IfSome o (λ m. IsSoundMark next (knowledge_of d.store) m.1.inv m.1.mark)
   new_mark None h = h
-  new_mark (Some m) h = mark_later sc next later (knowledge_of d.store) m.1.inv m.1.mark h
+  new_mark (Some m) h = mark_later book next later (knowledge_of d.store) m.1.inv m.1.mark h
 
   rows : d.store.rows ≡ rows_at (log_of next s.inv) p.change.usn
   rows =
-      ap (rows_after p.change.removed (held_of p.change.writes)) (state.rows ∙ ap (rows_at (log_of sc s.inv)) state.last)
-      ∙ sym (rows_now (log_of sc s.inv) p.change (book.kept s.inv) follows)
+      ap (rows_after p.change.removed (held_of p.change.writes)) (state.rows ∙ ap (rows_at (log_of book s.inv)) state.last)
+      ∙ sym (rows_now (log_of book s.inv) p.change (sound_book.kept s.inv) follows)
       ∙ ap (λ (h : LocalLog). rows_at h p.change.usn) (sym log)
 
   pub sound_state_is_left : IsSoundState next d

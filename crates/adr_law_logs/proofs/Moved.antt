@@ -18,8 +18,8 @@ module _ (s : Book) (r : Reply) (k k' : Knowledge) (book : IsSoundBook s) (reply
       by (inl c) = has.kept x.update (may.covered x.update (book.logged r.inv r.to.seen x m) (omega (arith, c, may.asked (inv_of x.update))))
       by (inr (inl sent)) = has.sent x.update sent
       by (inr (inr b)) =
-          let past = past_below (log_of s r.inv) r.from r.to.seen (book.kept r.inv) may.mark.cut may.mark.ordered reply.forward x m b in
+          let past = past_below (log_of s r.inv) r.from r.to.seen (book.kept r.inv) may.mark.boundary may.mark.ordered reply.forward x m b in
           has.kept x.update (may.mark.watermark x past.0 past.1)
 
   pub mark_taken : IsSoundMark s k' r.inv r.to
-  mark_taken = record { ordered = reply.to_ordered; seen = reply.to_seen; cut = reply.to_cut; watermark = holds }
+  mark_taken = record { ordered = reply.to_ordered; seen = reply.to_seen; boundary = reply.to_boundary; watermark = holds }

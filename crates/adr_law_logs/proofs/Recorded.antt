@@ -6,14 +6,14 @@ use Rattle.adr_model.specs.Member.{Member, Each}
 use Rattle.adr_model.specs.Update.{Identifier, Update, ends, inv_of, usn_of}
 use Rattle.adr_model.specs.Store.{Held}
 use Rattle.adr_model.specs.Change.{Change, updates_written, held_of}
-use Rattle.adr_model.specs.LocalLog.{LocalLog, no_log, last_usn, where_made, rows_at, IsCut, IsKept, Follows}
+use Rattle.adr_model.specs.LocalLog.{LocalLog, no_log, last_usn, where_made, rows_at, IsBoundary, IsKept, Follows}
 use Rattle.adr_model.specs.Replica.{Call, ToWrite, ToTake, ToCollect, ToUpgrade, ToQuarantine, Pending, issued_by, Book, log_of, with_change, recorded}
 use Rattle.adr_model.specs.Sound.{last_of, IsBirthOf, IsOfOneChange, IsSoundBook}
 use Rattle.adr_model.proofs.Members.{member_left, member_of_either}
 use Rattle.adr_law_logs.specs.Later.{IsLater, AreIssuedBy, MayIssue}
 use Rattle.adr_law_logs.proofs.Units.{change_from}
 use Rattle.adr_law_logs.proofs.Past.{Tells}
-use Rattle.adr_law_logs.proofs.Extended.{log_goes_on, past_rows_stay, past_cuts_stay}
+use Rattle.adr_law_logs.proofs.Extended.{log_goes_on, past_rows_stay, past_boundaries_stay}
 use Rattle.adr_law_logs.proofs.Tables.{each_entry, entry_itself}
 
 issues_are_written : (call : Call) (c : Change) → Each (λ u. Member u (updates_written c)) (issued_by call c)
@@ -39,7 +39,7 @@ module _ (s : Book) (inv : Identifier) (p : Pending) (next : Follows (last_of s 
     newer = λ u m. ⊎_elim (λ old. inl old) (λ new. inr (subst (λ j. last_of s j < usn_of u) (sym (own u new).0) (own u new).1)) (member_of_either s.issued issues u m);
     rising = each_log (λ j h. last_of s j ≤ last_usn h) next.rises (λ j. omega arith);
     stable = λ j usn le. each_log (λ i h. usn ≤ last_of s i → rows_at h usn ≡ rows_at (log_of s i) usn) (λ l. past_rows_stay (log_of s inv) p.change usn next l) (λ i l. refl) j le;
-    cuts = λ j usn le cut. each_log (λ i h. usn ≤ last_of s i → IsCut (log_of s i) usn → IsCut h usn) (λ l c. past_cuts_stay (log_of s inv) p.change usn next l c) (λ i l c. c) j le cut;
+    boundaries = λ j usn le boundary. each_log (λ i h. usn ≤ last_of s i → IsBoundary (log_of s i) usn → IsBoundary h usn) (λ l c. past_boundaries_stay (log_of s inv) p.change usn next l c) (λ i l c. c) j le boundary;
   }
 
   module _ (may : MayIssue s p.change issues) (is : IsSoundBook s) where

@@ -40,7 +40,7 @@ pub reply_later : (s t : Book) → IsLater s t → (r : Reply) → IsSoundReply 
 reply_later s t l r is = record {
   to_ordered = is.to_ordered;
   to_seen = omega (arith, is.to_seen, l.rising r.inv);
-  to_cut = l.cuts r.inv r.to.seen is.to_seen is.to_cut;
+  to_boundary = l.boundaries r.inv r.to.seen is.to_seen is.to_boundary;
   from_ordered = is.from_ordered;
   forward = is.forward;
   asked = bounded_later s t l (at r.asked) is.asked;

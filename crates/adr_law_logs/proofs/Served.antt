@@ -29,23 +29,23 @@ use Rattle.adr_law_steps.proofs.Rows.{updated, held_as}
 use Rattle.adr_model.proofs.Members.{in_filter, of_filter, member_left, mapped_member}
 use Rattle.adr_law_logs.proofs.Past.{Tells}
 use Rattle.adr_law_steps.proofs.Locals.{last_within, units_same, units_tell}
-use Rattle.adr_law_logs.proofs.Bounds.{cut_when_all_is_read}
+use Rattle.adr_law_logs.proofs.Bounds.{boundary_when_all_is_read}
 use Rattle.adr_law_logs.proofs.Candidates.{entry_of, candidate_from, row_in_item}
 use Rattle.adr_law_logs.proofs.Ground.{LessTells, lt_tells, first_front, read_to_item, ground_of_log}
 
 -- where a reply begins
-pub begins : (sc : Book) (s : State) (q : Request) → IsSoundState sc s → IsSoundRequest sc q → IsOrdered (begins_at s q) × ((begins_at s q).seen ≤ s.store.usn)
-begins sc s q state request = by (same_identifier q.inv s.inv) refl
+pub begins : (book : Book) (s : State) (q : Request) → IsSoundState book s → IsSoundRequest book q → IsOrdered (begins_at s q) × ((begins_at s q).seen ≤ s.store.usn)
+begins book s q state request = by (same_identifier q.inv s.inv) refl
   where
     by : (b : Bool) → same_identifier q.inv s.inv ≡ b → IsOrdered (if b then q.mark else no_mark) × ((if b then q.mark else no_mark).seen ≤ s.store.usn)
-    by true is = (request.ordered, omega (arith, subst (λ i. q.mark.seen ≤ last_of sc i) (same_from_test q.inv s.inv is) request.seen, state.last))
+    by true is = (request.ordered, omega (arith, subst (λ i. q.mark.seen ≤ last_of book i) (same_from_test q.inv s.inv is) request.seen, state.last))
     by false is = (record { prop = omega arith; obj = omega arith }, omega arith)
 
 positive : (n : ℕ) → (n ≡ 0 → ⊥) → 1 ≤ n
 positive zero none = absurd (none refl)
 positive (suc n) none = omega arith
 
-module _ (sc : Book) (s : State) (q : Request) (now : ℕ) (book : IsSoundBook sc) (state : IsSoundState sc s) (request : IsSoundRequest sc q) (purged : at_most s.store.purged q.vector ≡ true) where
+module _ (book : Book) (s : State) (q : Request) (now : ℕ) (sound_book : IsSoundBook book) (state : IsSoundState book s) (request : IsSoundRequest book q) (purged : at_most s.store.purged q.vector ≡ true) where
   abbrev rows : List Held
   rows = s.store.rows
 
@@ -62,7 +62,7 @@ module _ (sc : Book) (s : State) (q : Request) (now : ℕ) (book : IsSoundBook s
   reply last = reply_of s q now from sent last
 
   began : IsOrdered from × (from.seen ≤ s.store.usn)
-  began = begins sc s q state request
+  began = begins book s q state request
 
   -- an item that is sent is of a row that may be sent
   sent_from : (c : ℕ × Item) → Member c sent → (x : Held) × Member x unseen × (c ≡ entry_of rows unseen (unit_of x.update.key))
@@ -95,9 +95,9 @@ module _ (sc : Book) (s : State) (q : Request) (now : ℕ) (book : IsSoundBook s
       let k = of_filter (λ (y : Held). same_unit (unit_of y.update.key) unit) unseen h.0 h.1 in
       (h.0, k.0, sym h.2, units_tell (unit_of h.0.update.key) unit k.1)
 
-  known : (u : Update) (i : Item) → Member i (map (λ (c : ℕ × Item). c.1) sent) → Member u i.rows → Member u sc.issued
+  known : (u : Update) (i : Item) → Member i (map (λ (c : ℕ × Item). c.1) sent) → Member u i.rows → Member u book.issued
   known u i m n = let x = item_is i m in let h = row_is (unit_of x.0.update.key) u (subst (λ (j : Item). Member u j.rows) x.2 n) in
-      subst (λ v. Member v sc.issued) h.2 (state.store.known h.0.update (updated rows h.0 (in_rows h.0 h.1)))
+      subst (λ v. Member v book.issued) h.2 (state.store.known h.0.update (updated rows h.0 (in_rows h.0 h.1)))
 
   -- a row of the unit of one that may be sent is sent too, or was seen
   sent_too : (x h : Held) → Member x unseen → Member h rows → unit_of h.update.key ≡ unit_of x.update.key
@@ -137,19 +137,19 @@ module _ (sc : Book) (s : State) (q : Request) (now : ℕ) (book : IsSoundBook s
   by_unit : (i : Item) → Member i (map (λ (c : ℕ × Item). c.1) sent) → i ≡ item_of unseen i.unit
   by_unit i m = let x = item_is i m in x.2 ∙ ap (item_of unseen) (sym (ap (λ (j : Item). j.unit) x.2))
 
-  moment : (b : Bool) → rows ≡ rows_at (log_of sc s.inv) (reply b).to.seen
+  moment : (b : Bool) → rows ≡ rows_at (log_of book s.inv) (reply b).to.seen
   moment true = state.rows
   moment false = state.rows
 
-  seen : (b : Bool) → (reply b).to.seen ≡ last_of sc s.inv
+  seen : (b : Bool) → (reply b).to.seen ≡ last_of book s.inv
   seen true = state.last
   seen false = state.last
 
   abbrev asked_for : Knowledge
   asked_for = record { rows = updates_of rows; vector = at s.store.vector; purged = at q.vector }
 
-  further : Grows sc.issued (knowledge_of s.store) asked_for
-  further = more_covered sc.issued (updates_of rows) (at s.store.vector) (at s.store.vector) (at s.store.purged) (at q.vector) (λ i. omega arith) (everywhere_from_at_most s.store.purged q.vector purged)
+  further : Grows book.issued (knowledge_of s.store) asked_for
+  further = more_covered book.issued (updates_of rows) (at s.store.vector) (at s.store.vector) (at s.store.purged) (at q.vector) (λ i. omega arith) (everywhere_from_at_most s.store.purged q.vector purged)
 
   -- the times that are told are of cursors of the own vector
   told_times : AreTimesOf s.store.vector (times_told s now)
@@ -172,7 +172,7 @@ module _ (sc : Book) (s : State) (q : Request) (now : ℕ) (book : IsSoundBook s
   times true = told_times
   times false = no_times s.store.vector
 
-  last : (b : Bool) → IfSome (then_some b s.store.vector) (IsSoundLast sc (reply b))
+  last : (b : Bool) → IfSome (then_some b s.store.vector) (IsSoundLast book (reply b))
   last false = tt
   last true = record {
     obj = refl;
@@ -180,15 +180,15 @@ module _ (sc : Book) (s : State) (q : Request) (now : ℕ) (book : IsSoundBook s
     vector = state.store.formed.vector;
     times = times (q.version == 2);
     bounded = state.store.bounded;
-    carries = λ u m c. subst (λ (rs : List Held). Reflects sc.issued (record { rows = updates_of rs; vector = at s.store.vector; purged = at q.vector }) u) state.rows
-        (grows_keeps sc.issued (knowledge_of s.store) asked_for further u (state.store.covered u m c));
+    carries = λ u m c. subst (λ (rs : List Held). Reflects book.issued (record { rows = updates_of rs; vector = at s.store.vector; purged = at q.vector }) u) state.rows
+        (grows_keeps book.issued (knowledge_of s.store) asked_for further u (state.store.covered u m c));
   }
 
-  sound : (b : Bool) → CoversItsGround (reply b) (log_of sc s.inv) → IsSoundReply sc (reply b)
+  sound : (b : Bool) → CoversItsGround (reply b) (log_of book s.inv) → IsSoundReply book (reply b)
   sound b ground = record {
     to_ordered = to_ordered b;
     to_seen = omega (arith, seen b);
-    to_cut = cut_when_all_is_read (log_of sc s.inv) (reply b).to.seen (book.kept s.inv) (omega (arith, seen b));
+    to_boundary = boundary_when_all_is_read (log_of book s.inv) (reply b).to.seen (sound_book.kept s.inv) (omega (arith, seen b));
     from_ordered = began.0;
     forward = omega (arith, began.1, state.last, seen b);
     asked = request.bounded;
@@ -202,5 +202,5 @@ module _ (sc : Book) (s : State) (q : Request) (now : ℕ) (book : IsSoundBook s
     classes = subst (λ (rs : List Held). AreClassesKnown (numbered s.store.schema) (updates_of rs)) (moment b) state.store.classes;
   }
 
-  pub reply_is_sound : IsSoundReply sc (reply_to s q now)
-  reply_is_sound = sound (length sent == length (candidates rows from q.vector)) (ground_of_log sc s q now state.rows state.store.formed.alone)
+  pub reply_is_sound : IsSoundReply book (reply_to s q now)
+  reply_is_sound = sound (length sent == length (candidates rows from q.vector)) (ground_of_log book s q now state.rows state.store.formed.alone)

@@ -19,7 +19,7 @@ use Rattle.adr_call.specs.declared.refusal.Table.TheVariants.{Cursors as CursorT
 use Rattle.adr_model.specs.Member.{Member, Each}
 use Rattle.adr_model.specs.Update.{Identifier, Update, inv_of, ends, same_identifier}
 use Rattle.adr_model.specs.Reflects.{Numbers, AtMost, Covers, Reflects, knowledge_of}
-use Rattle.adr_model.specs.Store.{Held, Kept, Store, State, updates_of}
+use Rattle.adr_model.specs.Store.{Held, PartnerMark, Store, State, updates_of}
 use Rattle.adr_model.specs.LocalLog.{LocalLog, no_log, last_usn, rows_at}
 use Rattle.adr_model.specs.Formed.{IsFormedStore, IsClosed}
 use Rattle.adr_model.specs.Collect.{names_inv, woken, adopt_refusal, adopt}
@@ -49,7 +49,7 @@ third a b c d h = (or_parts (a || b) c (or_parts (a || b || c) d h).0).1
 rows_none : (image : Store) (inv : Identifier) → names_inv image inv ≡ false → list_any (row_names inv) image.rows ≡ false
 rows_none image inv none =
     third (list_any (λ (c : Identifier × ℕ). same_identifier c.0 inv) image.vector) (list_any (λ (c : Identifier × ℕ). same_identifier c.0 inv) image.purged)
-    (list_any (row_names inv) image.rows) (list_any (λ (k : Identifier × Kept). same_identifier k.1.inv inv) image.marks) none
+    (list_any (row_names inv) image.rows) (list_any (λ (k : Identifier × PartnerMark). same_identifier k.1.inv inv) image.marks) none
 
 -- no end of a row was born under an identifier that the image doesn't name
 unborn : (image : Store) (inv : Identifier) → names_inv image inv ≡ false → (u : Update) → Member u (updates_of image.rows) → (o : Oid) → Member o (ends u.key) → same_identifier o.birth.inv inv ≡ false
@@ -64,13 +64,13 @@ unborn image inv none u m o n = each_fails (is_of inv) (ends u.key) ends_none o 
     ends_none : list_any (is_of inv) (ends u.key) ≡ false
     ends_none = subst (λ (v : Update). list_any (is_of inv) (ends v.key) ≡ false) (sym t.2) (or_parts (same_identifier (inv_of t.0.update) inv) (list_any (is_of inv) (ends t.0.update.key)) row_none).1
 
-module _ (sc : Book) (image : Store) (dsa inv : Identifier) (book : IsSoundBook sc) (sound : IsSoundStore sc image) (fresh : log_of sc inv ≡ no_log)
+module _ (book : Book) (image : Store) (dsa inv : Identifier) (sound_book : IsSoundBook book) (sound : IsSoundStore book image) (fresh : log_of book inv ≡ no_log)
     (unnamed : names_inv image inv ≡ false) (few : length (raised image.vector inv image.usn) ≤ cursor_limit) where
   abbrev d : State
   d = woken image dsa inv
 
   abbrev next : Book
-  next = begun sc d
+  next = begun book d
 
   abbrev V : Numbers
   V = at image.vector
@@ -78,14 +78,14 @@ module _ (sc : Book) (image : Store) (dsa inv : Identifier) (book : IsSoundBook 
   abbrev W : Numbers
   W = at d.store.vector
 
-  later : IsLater sc next
-  later = begun_later sc d fresh sound.formed.locals
+  later : IsLater book next
+  later = begun_later book d fresh sound.formed.locals
 
-  unused : last_of sc inv ≡ 0
+  unused : last_of book inv ≡ 0
   unused = ap last_usn fresh
 
   log : log_of next inv ≡ first_log image.usn image.rows
-  log = entry_itself sc.logs no_log inv (first_log image.usn image.rows)
+  log = entry_itself book.logs no_log inv (first_log image.usn image.rows)
 
   last : last_of next inv ≡ image.usn
   last = ap last_usn log
@@ -93,8 +93,8 @@ module _ (sc : Book) (image : Store) (dsa inv : Identifier) (book : IsSoundBook 
   up : AtMost V W
   up = raised_up image.vector inv image.usn
 
-  kept : Keeps sc.issued (knowledge_of image) (knowledge_of d.store)
-  kept = grows_keeps sc.issued (knowledge_of image) (knowledge_of d.store) (more_covered sc.issued (updates_of image.rows) V W (at image.purged) (at image.purged) up (λ i. omega arith))
+  kept : Keeps book.issued (knowledge_of image) (knowledge_of d.store)
+  kept = grows_keeps book.issued (knowledge_of image) (knowledge_of d.store) (more_covered book.issued (updates_of image.rows) V W (at image.purged) (at image.purged) up (λ i. omega arith))
 
   -- at another identifier nothing was raised
   W_is : (i : Identifier) → W i ≡ max (V i) (cond (is_eq (identifier_order i inv)) image.usn 0)
@@ -115,7 +115,7 @@ module _ (sc : Book) (image : Store) (dsa inv : Identifier) (book : IsSoundBook 
   covered u m c = by (is_eq (identifier_order (inv_of u) inv)) refl
     where
       by : (b : Bool) → is_eq (identifier_order (inv_of u) inv) ≡ b → Reflects next.issued (knowledge_of d.store) u
-      by true is = absurd (omega (arith, (book.once u m).0, (book.once u m).1, unused, ap (last_of sc) (same_from_test (inv_of u) inv is)))
+      by true is = absurd (omega (arith, (sound_book.once u m).0, (sound_book.once u m).1, unused, ap (last_of book) (same_from_test (inv_of u) inv is)))
       by false is = kept u (sound.covered u m (omega (arith, c, elsewhere (inv_of u) is)))
 
   closed : IsClosed d.store
@@ -135,11 +135,11 @@ module _ (sc : Book) (image : Store) (dsa inv : Identifier) (book : IsSoundBook 
     limits = record { objects = sound.formed.limits.objects; links = sound.formed.limits.links; marks = sound.formed.limits.marks };
   }
 
-  raised_mark : (i : Identifier) (k : Kept) → IsSoundMark sc (knowledge_of image) k.inv k.mark → IsSoundMark next (knowledge_of d.store) k.inv k.mark
-  raised_mark i k is = mark_later sc next later (knowledge_of d.store) k.inv k.mark (record {
+  raised_mark : (i : Identifier) (k : PartnerMark) → IsSoundMark book (knowledge_of image) k.inv k.mark → IsSoundMark next (knowledge_of d.store) k.inv k.mark
+  raised_mark i k is = mark_later book next later (knowledge_of d.store) k.inv k.mark (record {
     ordered = is.ordered;
     seen = is.seen;
-    cut = is.cut;
+    boundary = is.boundary;
     watermark = λ x m below. kept x.update (is.watermark x m below);
   })
 
@@ -169,11 +169,11 @@ module _ (sc : Book) (image : Store) (dsa inv : Identifier) (book : IsSoundBook 
 pub adopted_is_woken : (image : Store) (dsa inv : Identifier) (s : State) → adopt image dsa inv ≡ Ok s → woken image dsa inv ≡ s
 adopted_is_woken image dsa inv s e = (answered (adopt_refusal image inv (woken image dsa inv)) (woken image dsa inv) s e).1
 
-pub adopted_is_sound : (sc : Book) (image : Store) (dsa inv : Identifier) (s : State) → IsSoundBook sc → IsSoundStore sc image → log_of sc inv ≡ no_log → adopt image dsa inv ≡ Ok s
-    → IsLater sc (begun sc s) × (IsSoundBook (begun sc s) × IsSoundState (begun sc s) s)
-adopted_is_sound sc image dsa inv s book sound fresh e = subst (λ (z : State). IsLater sc (begun sc z) × (IsSoundBook (begun sc z) × IsSoundState (begun sc z) z)) t.1 (
-  begun_later sc d fresh sound.formed.locals,
-  (begun_sound sc d fresh sound.formed.locals known book, woken_state sc image dsa inv book sound fresh (not_then _ IdentifierUsed (none _ (inl refl))) (ltb-false cursor_limit (length d.store.vector) (not_then _ (Full CursorTable cursor_limit) (none _ (inr (inl refl)))))),
+pub adopted_is_sound : (book : Book) (image : Store) (dsa inv : Identifier) (s : State) → IsSoundBook book → IsSoundStore book image → log_of book inv ≡ no_log → adopt image dsa inv ≡ Ok s
+    → IsLater book (begun book s) × (IsSoundBook (begun book s) × IsSoundState (begun book s) s)
+adopted_is_sound book image dsa inv s sound_book sound fresh e = subst (λ (z : State). IsLater book (begun book z) × (IsSoundBook (begun book z) × IsSoundState (begun book z) z)) t.1 (
+  begun_later book d fresh sound.formed.locals,
+  (begun_sound book d fresh sound.formed.locals known sound_book, woken_state book image dsa inv sound_book sound fresh (not_then _ IdentifierUsed (none _ (inl refl))) (ltb-false cursor_limit (length d.store.vector) (not_then _ (Full CursorTable cursor_limit) (none _ (inr (inl refl)))))),
 )
   where
     d : State
@@ -188,5 +188,5 @@ adopted_is_sound sc image dsa inv s book sound fresh e = subst (λ (z : State). 
     none : Each (λ (o : Option AdoptRefusal). o ≡ None) tests
     none = none_there tests t.0
 
-    known : Each (λ (x : Held). Member x.update sc.issued) image.rows
+    known : Each (λ (x : Held). Member x.update book.issued) image.rows
     known x m = sound.known x.update (updated image.rows x m)

@@ -95,11 +95,11 @@ held_from ws x m =
     let u = mapped_member (held_at w.0.local) w.0.item.rows x w.2 in
     (w.0, w.1, subst (λ (v : Update). Member v w.0.item.rows) (sym (ap (λ (y : Held). y.update) u.2)) u.1, ap (λ (y : Held). y.local) u.2)
 
-module _ (sc : Book) (s : State) (w : Write) (now : ℕ) (last : s.store.usn ≡ last_of sc s.inv) where
+module _ (book : Book) (s : State) (w : Write) (now : ℕ) (last : s.store.usn ≡ last_of book s.inv) where
   abbrev change : Change
   change = own_change s (items_written s w now)
 
-  follows : Follows (last_of sc s.inv) change
+  follows : Follows (last_of book s.inv) change
   follows = record {
     rises = omega (arith, last);
     above = λ x m. let h = held_from (items_written s w now) x m in omega (arith, (items_take_usns s w now h.0 h.1).0, h.3, last);
@@ -107,12 +107,12 @@ module _ (sc : Book) (s : State) (w : Write) (now : ℕ) (last : s.store.usn ≡
     idle = λ le. absurd (omega (arith, last, le));
   }
 
-  own : AreIssuedBy sc s.inv change (updates_written change)
+  own : AreIssuedBy book s.inv change (updates_written change)
   own u m =
       let x = flat_member (λ (w : Written). w.item.rows) (items_written s w now) u m in
       let p = items_are_own s w now x.0 x.1 u x.2 in
       let n = items_take_usns s w now x.0 x.1 in
       (p.0, omega (arith, p.1, n.0, last), omega (arith, p.1, n.1))
 
-  pub write_may_follow : (c : Change) → write s w now ≡ Ok c → Follows (last_of sc s.inv) c × AreIssuedBy sc s.inv c (issued_by (ToWrite w now) c)
-  write_may_follow c e = subst (λ (z : Change). Follows (last_of sc s.inv) z × AreIssuedBy sc s.inv z (issued_by (ToWrite w now) z)) (answered (write_refusal s w) change c e).1 (follows, own)
+  pub write_may_follow : (c : Change) → write s w now ≡ Ok c → Follows (last_of book s.inv) c × AreIssuedBy book s.inv c (issued_by (ToWrite w now) c)
+  write_may_follow c e = subst (λ (z : Change). Follows (last_of book s.inv) z × AreIssuedBy book s.inv z (issued_by (ToWrite w now) z)) (answered (write_refusal s w) change c e).1 (follows, own)

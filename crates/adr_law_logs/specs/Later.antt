@@ -4,7 +4,7 @@ use Rattle.adr_stamp.specs.declared.Oid.{Oid}
 use Rattle.adr_model.specs.Member.{Member, Each}
 use Rattle.adr_model.specs.Update.{Identifier, Update, RowOf, ends, inv_of, usn_of, class_attr}
 use Rattle.adr_model.specs.Change.{Change, held_of}
-use Rattle.adr_model.specs.LocalLog.{rows_at, IsCut}
+use Rattle.adr_model.specs.LocalLog.{rows_at, IsBoundary}
 use Rattle.adr_model.specs.Take.{is_birth}
 use Rattle.adr_model.specs.Replica.{Book, log_of}
 use Rattle.adr_model.specs.Sound.{last_of, IsBirthOf}
@@ -15,7 +15,7 @@ pub record IsLater (s s' : Book) : Type 0 where
   pub newer : Each (λ u. Member u s.issued ⊎ (last_of s (inv_of u) < usn_of u)) s'.issued
   pub rising : (i : Identifier) → last_of s i ≤ last_of s' i
   pub stable : (i : Identifier) (usn : ℕ) → usn ≤ last_of s i → rows_at (log_of s' i) usn ≡ rows_at (log_of s i) usn
-  pub cuts : (i : Identifier) (usn : ℕ) → usn ≤ last_of s i → IsCut (log_of s i) usn → IsCut (log_of s' i) usn
+  pub boundaries : (i : Identifier) (usn : ℕ) → usn ≤ last_of s i → IsBoundary (log_of s i) usn → IsBoundary (log_of s' i) usn
 
 -- updates of one incarnation, under USNs that a change takes
 abbrev pub AreIssuedBy : Book → Identifier → Change → List Update → Type 0

@@ -41,17 +41,17 @@ pub fn an_incarnation_begins()
 /// so is the book in which its incarnation begins.
 #[tactic(none)]
 pub fn adopted_images_are_sound()
-    ensures { (sc : Book) (image : Store) (dsa inv : Identifier) (s : State) → IsSoundBook sc
-        → IsSoundStore sc image → log_of sc inv ≡ no_log → adopt image dsa inv ≡ Ok s
-        → IsLater sc (begun sc s) × (IsSoundBook (begun sc s) × IsSoundState (begun sc s) s) }
+    ensures { (book : Book) (image : Store) (dsa inv : Identifier) (s : State) → IsSoundBook book
+        → IsSoundStore book image → log_of book inv ≡ no_log → adopt image dsa inv ≡ Ok s
+        → IsLater book (begun book s) × (IsSoundBook (begun book s) × IsSoundState (begun book s) s) }
 {}
 
 /// A new controller under an identifier that was never used is sound, and so is the book in which
 /// its incarnation begins.
 #[tactic(none)]
 pub fn new_controllers_are_sound()
-    ensures { (sc : Book) (dsa inv : Identifier) → IsSoundBook sc → log_of sc inv ≡ no_log
-        → IsLater sc (begun sc (empty_state dsa inv)) × (IsSoundBook (begun sc (empty_state dsa inv)) × IsSoundState (begun sc (empty_state dsa inv)) (empty_state dsa inv)) }
+    ensures { (book : Book) (dsa inv : Identifier) → IsSoundBook book → log_of book inv ≡ no_log
+        → IsLater book (begun book (empty_state dsa inv)) × (IsSoundBook (begun book (empty_state dsa inv)) × IsSoundState (begun book (empty_state dsa inv)) (empty_state dsa inv)) }
 {}
 
 /// A change becomes safe with what it issues: the book is later, and stays sound where the change
@@ -73,10 +73,10 @@ pub fn a_change_is_recorded()
 /// sound state needs is sound behind the change, in the book in which that is safe.
 #[tactic(none)]
 pub fn a_change_leaves_a_sound_state()
-    ensures { (sc : Book) (s : State) (p : Pending) → IsSoundBook sc → IsSoundState sc s
-        → Follows (last_of sc s.inv) p.change → AreIssuedBy sc s.inv p.change (issued_by p.call p.change)
-        → Leaves sc s p
-        → IsSoundState (recorded sc s.inv p) (after s p.change) }
+    ensures { (book : Book) (s : State) (p : Pending) → IsSoundBook book → IsSoundState book s
+        → Follows (last_of book s.inv) p.change → AreIssuedBy book s.inv p.change (issued_by p.call p.change)
+        → Leaves book s p
+        → IsSoundState (recorded book s.inv p) (after s p.change) }
 {}
 
 /// What was sound of a book is sound of a later one. Of a controller it is so while its own log

@@ -19,7 +19,8 @@ pub use books::{
     what_is_sound_stays_sound,
 };
 pub use logs::{
-    changes_account_for_rows, later_rows_keep_a_cut, logs_are_bounded, logs_go_on, marks_move_on,
+    changes_account_for_rows, later_rows_keep_a_boundary, logs_are_bounded, logs_go_on,
+    marks_move_on,
 };
 pub use moves::moves_keep_what_is_sound;
 pub use serving::{

@@ -8,7 +8,7 @@ ghost use Rattle.adr_model.specs.Update.{Update};
 ghost use Rattle.adr_model.specs.Reflects.{Knowledge};
 ghost use Rattle.adr_model.specs.Store.{Held, no_mark};
 ghost use Rattle.adr_model.specs.Change.{Change, held_of, rows_after};
-ghost use Rattle.adr_model.specs.LocalLog.{LocalLog, last_usn, rows_at, IsCut, Follows, IsKept, IsOrdered, SameUnit, IsBelow, WatermarkHolds};
+ghost use Rattle.adr_model.specs.LocalLog.{LocalLog, last_usn, rows_at, IsBoundary, Follows, IsKept, IsOrdered, SameUnit, IsBelow, WatermarkHolds};
 ghost use Rattle.adr_model.specs.Replica.{with_change};
 ghost use Rattle.adr_law_logs.specs.Units.{IsAccountedFor};
 ghost use Rattle.adr_law_logs.specs.Logs.{IsUnitWithin, at_moment};
@@ -32,8 +32,8 @@ pub fn logs_are_bounded()
         → Each (λ x. (1 ≤ x.local) × (x.local ≤ usn)) (rows_at h usn) }
     ensures all_read { (h : LocalLog) (usn : ℕ) → IsKept h → last_usn h ≤ usn
         → rows_at h usn ≡ rows_at h (last_usn h) }
-    ensures last_is_cut { (h : LocalLog) (usn : ℕ) → IsKept h → last_usn h ≤ usn → IsCut h usn }
-    ensures first_is_cut { (h : LocalLog) → IsKept h → IsCut h 0 }
+    ensures last_is_boundary { (h : LocalLog) (usn : ℕ) → IsKept h → last_usn h ≤ usn → IsBoundary h usn }
+    ensures first_is_boundary { (h : LocalLog) → IsKept h → IsBoundary h 0 }
 {}
 
 /// A log begins, and goes on by a change that follows: it stays well kept, and what it said of
@@ -45,23 +45,23 @@ pub fn logs_go_on()
     ensures kept { (h : LocalLog) (c : Change) → IsKept h → Follows (last_usn h) c → IsKept (with_change h c) }
     ensures rows { (h : LocalLog) (c : Change) (usn : ℕ) → Follows (last_usn h) c → usn ≤ last_usn h
         → rows_at (with_change h c) usn ≡ rows_at h usn }
-    ensures cuts { (h : LocalLog) (c : Change) (usn : ℕ) → Follows (last_usn h) c → usn ≤ last_usn h → IsCut h usn
-        → IsCut (with_change h c) usn }
+    ensures boundaries { (h : LocalLog) (c : Change) (usn : ℕ) → Follows (last_usn h) c → usn ≤ last_usn h → IsBoundary h usn
+        → IsBoundary (with_change h c) usn }
     ensures now { (h : LocalLog) (c : Change) → IsKept h → Follows (last_usn h) c
         → rows_at (with_change h c) c.usn ≡ rows_after c.removed (held_of c.writes) (rows_at h (last_usn h)) }
 {}
 
-/// What later rows keep of those at a cut: a row written at or before the cut stood there, and a
-/// unit with no row behind the cut has all the rows that it had there. So what a mark leaves out
+/// What later rows keep of those at a boundary: a row written at or before the boundary stood there, and a
+/// unit with no row behind the boundary has all the rows that it had there. So what a mark leaves out
 /// of later rows it left out at its own moment.
 #[tactic(none)]
-pub fn later_rows_keep_a_cut()
-    ensures rows { (h : LocalLog) (cut later : ℕ) → IsKept h → IsCut h cut → cut ≤ later
-        → Each (λ x. x.local ≤ cut → Member x (rows_at h cut)) (rows_at h later) }
-    ensures units { (h : LocalLog) (cut later : ℕ) → IsKept h → IsCut h cut → cut ≤ later
-        → Each (λ x. IsUnitWithin (rows_at h later) x cut
-        → Each (λ y. SameUnit y x → Member y (rows_at h later)) (rows_at h cut)) (rows_at h later) }
-    ensures below { (h : LocalLog) (m : Mark) (later : ℕ) → IsKept h → IsCut h m.seen → IsOrdered m
+pub fn later_rows_keep_a_boundary()
+    ensures rows { (h : LocalLog) (boundary later : ℕ) → IsKept h → IsBoundary h boundary → boundary ≤ later
+        → Each (λ x. x.local ≤ boundary → Member x (rows_at h boundary)) (rows_at h later) }
+    ensures units { (h : LocalLog) (boundary later : ℕ) → IsKept h → IsBoundary h boundary → boundary ≤ later
+        → Each (λ x. IsUnitWithin (rows_at h later) x boundary
+        → Each (λ y. SameUnit y x → Member y (rows_at h later)) (rows_at h boundary)) (rows_at h later) }
+    ensures below { (h : LocalLog) (m : Mark) (later : ℕ) → IsKept h → IsBoundary h m.seen → IsOrdered m
         → m.seen ≤ later
         → Each (λ x. IsBelow (rows_at h later) m x
         → Member x (rows_at h m.seen) × IsBelow (rows_at h m.seen) m x) (rows_at h later) }
@@ -72,7 +72,7 @@ pub fn later_rows_keep_a_cut()
 #[tactic(none)]
 pub fn marks_move_on()
     ensures later { (issued : List Update) (k : Knowledge) (h : LocalLog) (m : Mark) (later : ℕ) → IsKept h
-        → IsCut h m.seen → IsOrdered m → m.seen ≤ later → WatermarkHolds issued k h m
+        → IsBoundary h m.seen → IsOrdered m → m.seen ≤ later → WatermarkHolds issued k h m
         → WatermarkHolds issued k h (at_moment m later) }
     ensures unread { (issued : List Update) (k : Knowledge) (h : LocalLog) → IsKept h
         → WatermarkHolds issued k h no_mark }

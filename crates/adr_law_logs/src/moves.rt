@@ -12,13 +12,13 @@ ghost use Rattle.adr_law_logs.specs.Settling.{MaySettle, HasSettled};
 /// sound, where the change may be recorded and the state after it is sound.
 #[tactic(none)]
 pub fn moves_keep_what_is_sound()
-    ensures begin { (sc : Book) (r : Replica) (p : Pending) → IsSoundState sc r.safe → IsSoundCall sc p.call
+    ensures begin { (book : Book) (r : Replica) (p : Pending) → IsSoundState book r.safe → IsSoundCall book p.call
         → change_of r.safe p.call ≡ Some p.change → r.standing ≢ Up
-        → IsSoundReplica sc (moved (sc, r) (Begin p)).1 }
-    ensures forget { (sc : Book) (r : Replica) → IsSoundReplica sc r
-        → IsSoundReplica sc (moved (sc, r) Forget).1 × IsSettled (moved (sc, r) Forget).1 }
-    ensures settle { (sc : Book) (r : Replica) (p : Pending) → IsSoundBook sc → r.kept ≡ Some p
-        → r.read ≡ after r.safe p.change → MaySettle sc r p → HasSettled sc (moved (sc, r) Settle) }
-    ensures idle { (sc : Book) (r : Replica) → IsSettled r → IsSoundReplica sc r
-        → ((moved (sc, r) Settle).0 ≡ sc) × IsSoundReplica sc (moved (sc, r) Settle).1 }
+        → IsSoundReplica book (moved (book, r) (Begin p)).1 }
+    ensures forget { (book : Book) (r : Replica) → IsSoundReplica book r
+        → IsSoundReplica book (moved (book, r) Forget).1 × IsSettled (moved (book, r) Forget).1 }
+    ensures settle { (book : Book) (r : Replica) (p : Pending) → IsSoundBook book → r.kept ≡ Some p
+        → r.read ≡ after r.safe p.change → MaySettle book r p → HasSettled book (moved (book, r) Settle) }
+    ensures idle { (book : Book) (r : Replica) → IsSettled r → IsSoundReplica book r
+        → ((moved (book, r) Settle).0 ≡ book) × IsSoundReplica book (moved (book, r) Settle).1 }
 {}

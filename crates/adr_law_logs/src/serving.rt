@@ -16,32 +16,32 @@ ghost use Rattle.adr_model.specs.Sound.{IsSoundBook, IsSoundStore, IsSoundState,
 /// no two units share their last local USN.
 #[tactic(none)]
 pub fn replies_cover_their_ground()
-    ensures { (sc : Book) (s : State) (q : Request) (now : ℕ) → s.store.rows ≡ rows_at (log_of sc s.inv) s.store.usn
-        → AreAlone s.store.rows → CoversItsGround (reply_to s q now) (log_of sc s.inv) }
+    ensures { (book : Book) (s : State) (q : Request) (now : ℕ) → s.store.rows ≡ rows_at (log_of book s.inv) s.store.usn
+        → AreAlone s.store.rows → CoversItsGround (reply_to s q now) (log_of book s.inv) }
 {}
 
 /// What a sound store asks is a sound request, whoever the partner is.
 #[tactic(none)]
 pub fn asked_requests_are_sound()
-    ensures { (sc : Book) (s : State) (partner : Identifier) (max version : ℕ) → IsSoundStore sc s.store
-        → IsSoundRequest sc (ask s partner max version) }
+    ensures { (book : Book) (s : State) (partner : Identifier) (max version : ℕ) → IsSoundStore book s.store
+        → IsSoundRequest book (ask s partner max version) }
 {}
 
 /// What a sound state answers to a sound request is a sound reply.
 #[tactic(none)]
 pub fn served_replies_are_sound()
-    ensures served { (sc : Book) (s : State) (q : Request) (now : ℕ) (r : Reply) → IsSoundBook sc → IsSoundState sc s
-        → IsSoundRequest sc q → serve s q now ≡ Ok r → IsSoundReply sc r }
-    ensures covered { (sc : Book) (s : State) (q : Request) (now : ℕ) → IsSoundBook sc → IsSoundState sc s
-        → IsSoundRequest sc q → at_most s.store.purged q.vector ≡ true → IsSoundReply sc (reply_to s q now) }
+    ensures served { (book : Book) (s : State) (q : Request) (now : ℕ) (r : Reply) → IsSoundBook book → IsSoundState book s
+        → IsSoundRequest book q → serve s q now ≡ Ok r → IsSoundReply book r }
+    ensures covered { (book : Book) (s : State) (q : Request) (now : ℕ) → IsSoundBook book → IsSoundState book s
+        → IsSoundRequest book q → at_most s.store.purged q.vector ≡ true → IsSoundReply book (reply_to s q now) }
 {}
 
 /// A sound request shows no more of an incarnation than its controller has done, and so none is
 /// refused for a rollback.
 #[tactic(none)]
 pub fn sound_requests_show_no_rollback()
-    ensures shown { (sc : Book) (s : State) (q : Request) → IsSoundState sc s → IsSoundRequest sc q
+    ensures shown { (book : Book) (s : State) (q : Request) → IsSoundState book s → IsSoundRequest book q
         → shown_by s q ≤ s.store.usn }
-    ensures refused { (sc : Book) (s : State) (q : Request) (now : ℕ) (inv : Identifier) (mine shown : ℕ)
-        → IsSoundState sc s → IsSoundRequest sc q → serve s q now ≢ Err (RolledBack inv mine shown) }
+    ensures refused { (book : Book) (s : State) (q : Request) (now : ℕ) (inv : Identifier) (mine shown : ℕ)
+        → IsSoundState book s → IsSoundRequest book q → serve s q now ≢ Err (RolledBack inv mine shown) }
 {}

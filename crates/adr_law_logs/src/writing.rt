@@ -22,7 +22,7 @@ pub fn writes_issue_their_own()
     ensures usns { (s : State) (w : Write) (now : ℕ)
         → Each (λ (x : Written). (s.store.usn < x.local)
         × (x.local ≤ s.store.usn + length (items_written s w now))) (items_written s w now) }
-    ensures change { (sc : Book) (s : State) (w : Write) (now : ℕ) → s.store.usn ≡ last_of sc s.inv → (c : Change)
+    ensures change { (book : Book) (s : State) (w : Write) (now : ℕ) → s.store.usn ≡ last_of book s.inv → (c : Change)
         → write s w now ≡ Ok c
-        → Follows (last_of sc s.inv) c × AreIssuedBy sc s.inv c (issued_by (ToWrite w now) c) }
+        → Follows (last_of book s.inv) c × AreIssuedBy book s.inv c (issued_by (ToWrite w now) c) }
 {}

@@ -28,7 +28,7 @@ use Rattle.adr_model.specs.Member.{Each, Member}
 use Rattle.adr_model.specs.Place.{identifier}
 use Rattle.adr_model.specs.Serve.{Request, Reply, ask, begins_at, byte_limit, candidates, item_of, reply_to, serve_refusal, serve}
 use Rattle.adr_model.specs.Spelled.{IsSpelledItem, IsSpelledReply, SayOfTheirKeys}
-use Rattle.adr_model.specs.Store.{Held, Kept, State, kept_of, no_mark, updates_of}
+use Rattle.adr_model.specs.Store.{Held, PartnerMark, State, kept_of, no_mark, updates_of}
 use Rattle.adr_model.specs.Take.{is_reserved_row}
 use Rattle.adr_model.specs.Update.{Identifier, Key, RowOf, LinkOf, Update, deleted_attr, same_identifier, unit_of}
 use Rattle.adr_model.proofs.Members.{mapped_member, member_left}
@@ -64,15 +64,15 @@ asked_formed s partner max logged id some few =
       version = refl;
       dest = logged.dsa;
       source = id;
-      inv = kept (λ (k : Kept). IsId k.inv) refl (λ k m. (logged.spelled.marks k m).1.0);
-      mark = kept (λ (k : Kept). IsMark k.mark) no_mark_in_range (λ k m. (logged.spelled.marks k m).1.1);
+      inv = kept (λ (k : PartnerMark). IsId k.inv) refl (λ k m. (logged.spelled.marks k m).1.0);
+      mark = kept (λ (k : PartnerMark). IsMark k.mark) no_mark_in_range (λ k m. (logged.spelled.marks k m).1.1);
       schema = parts.schema.0;
       some = some;
       max = few;
       vector = parts.vector;
     }
   where
-    kept : (P : Kept → Type 0) → P (record { inv = identifier 0; mark = no_mark }) → Each (λ (k : Identifier × Kept). P k.1) s.store.marks → P (kept_of s.store partner)
+    kept : (P : PartnerMark → Type 0) → P (record { inv = identifier 0; mark = no_mark }) → Each (λ (k : Identifier × PartnerMark). P k.1) s.store.marks → P (kept_of s.store partner)
     kept P none each = each_found P (is_at (identifier_order partner)) s.store.marks (record { inv = identifier 0; mark = no_mark }) none each
 
 -- ---- marks in order

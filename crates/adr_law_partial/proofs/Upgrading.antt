@@ -54,8 +54,8 @@ part_upgraded p whole part = record {
   marks = part.marks;
 }
 
-passive_upgraded : (sc : Book) (whole : Store) → IsPassive sc whole → IsPassive sc (second whole)
-passive_upgraded sc whole is = record {
+passive_upgraded : (book : Book) (whole : Store) → IsPassive book whole → IsPassive book (second whole)
+passive_upgraded book whole is = record {
   base = record {
     known = is.base.known;
     covered = is.base.covered;
@@ -71,8 +71,8 @@ passive_upgraded sc whole is = record {
   marks = is.marks;
 }
 
-pub sound_upgraded : (sc : Book) (p : Partial) → IsSoundPartial sc p → IsSoundPartial sc (partial_after p (upgrade_part p))
-sound_upgraded sc p is = record { whole = second is.whole; passive = passive_upgraded sc is.whole is.passive; part = part_upgraded p is.whole is.part }
+pub sound_upgraded : (book : Book) (p : Partial) → IsSoundPartial book p → IsSoundPartial book (partial_after p (upgrade_part p))
+sound_upgraded book p is = record { whole = second is.whole; passive = passive_upgraded book is.whole is.passive; part = part_upgraded p is.whole is.part }
 
 pub formed_upgraded : (p : Partial) → IsFormedPart p → IsFormedPart (partial_after p (upgrade_part p))
 formed_upgraded p is = record {

@@ -5,7 +5,7 @@ use Rattle.adr_stamp.specs.Order.{identifier_order}
 use Rattle.adr_wire.specs.Ranges.{IsU32, IsMark}
 use Rattle.adr_model.specs.Update.{Identifier}
 use Rattle.adr_model.specs.Place.{identifier}
-use Rattle.adr_model.specs.Store.{Kept, State, no_mark}
+use Rattle.adr_model.specs.Store.{PartnerMark, State, no_mark}
 use Rattle.adr_model.specs.Serve.{ask}
 use Rattle.adr_law_logs.proofs.Tables.{each_found}
 use Rattle.adr_records.specs.Logged.{IsLogged}
@@ -17,7 +17,7 @@ no_mark_in_range = (omega arith, (omega arith, omega arith))
 pub asked_in_range : (s : State) (partner : Identifier) (max : ℕ) → IsLogged s → IsU32 max → IsRangedRequest (ask s partner max 1)
 asked_in_range s partner max logged few = record {
   version = refl;
-  mark = each_found (λ (k : Kept). IsMark k.mark) (is_at (identifier_order partner)) s.store.marks
+  mark = each_found (λ (k : PartnerMark). IsMark k.mark) (is_at (identifier_order partner)) s.store.marks
       (record { inv = identifier 0; mark = no_mark }) no_mark_in_range (λ k m. (logged.spelled.marks k m).1.1);
   max = few;
 }

@@ -9,7 +9,7 @@ use Rattle.adr_vector.specs.Vector.{Cursors}
 use Rattle.adr_wire.specs.Ranges.{IsId, IsMark, IsOid, IsCursor}
 use Rattle.adr_model.specs.Member.{Each}
 use Rattle.adr_model.specs.Update.{Identifier, Update}
-use Rattle.adr_model.specs.Store.{Kept, State}
+use Rattle.adr_model.specs.Store.{PartnerMark, State}
 use Rattle.adr_model.specs.Change.{Item, Change}
 use Rattle.adr_model.specs.Serve.{Reply}
 use Rattle.adr_model.specs.Take.{Taking, begin, rows_taken, times_brought, writes_of, take_item, take}
@@ -58,7 +58,7 @@ taken_in_range s r c ranged e =
     record {
       usn = omega (arith, brings.1);
       schema = subst (λ (x : Change). x.schema ≡ s.store.schema) p.1 refl;
-      mark = subst (λ m. IfSome m (λ (k : Identifier × Kept). IsId k.0 × IsId k.1.inv × IsMark k.1.mark)) (sym brings.4)
+      mark = subst (λ m. IfSome m (λ (k : Identifier × PartnerMark). IsId k.0 × IsId k.1.inv × IsMark k.1.mark)) (sym brings.4)
           (ranged.source, ranged.inv, ranged.to);
       joined = subst (AllByRecursion IsCursor) (sym brings.2) (last_in_range r.last ranged.last);
       times = brings.3 ∙ no_times_brought r ranged.times;

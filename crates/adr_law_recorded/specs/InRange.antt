@@ -4,7 +4,7 @@ use Rattle.std.specs.List.{AllByRecursion}
 use Rattle.adr_wire.specs.Ranges.{IsId, IsUsn0, IsMark, IsOid, IsCursor}
 use Rattle.adr_model.specs.Member.{Each}
 use Rattle.adr_model.specs.Update.{Identifier, Update}
-use Rattle.adr_model.specs.Store.{Kept}
+use Rattle.adr_model.specs.Store.{PartnerMark}
 use Rattle.adr_model.specs.Change.{Change, updates_written}
 use Rattle.adr_image.specs.Stored.{IsSpelledRow}
 
@@ -12,7 +12,7 @@ use Rattle.adr_image.specs.Stored.{IsSpelledRow}
 pub record IsInRange (number : ℕ) (c : Change) : Type 0 where
   pub usn : IsUsn0 c.usn
   pub schema : c.schema ≡ number
-  pub mark : IfSome c.mark (λ (k : Identifier × Kept). IsId k.0 × IsId k.1.inv × IsMark k.1.mark)
+  pub mark : IfSome c.mark (λ (k : Identifier × PartnerMark). IsId k.0 × IsId k.1.inv × IsMark k.1.mark)
   pub joined : AllByRecursion IsCursor c.joined
   pub times : c.times ≡ []
   pub purged : AllByRecursion IsCursor c.purged

@@ -140,6 +140,6 @@ module _ (us : List Update) where
     pub node_there : (c n : Update) (class : ℕ) (text : List ℕ) (parent : Identifier) → Member c us → c.key ≡ RowOf o class_attr → c.said ≡ Holds (Class class)
         → Member n us → n.key ≡ RowOf o name_attr → n.said ≡ Holds (Name text parent)
         → Member (record { object = o; class = class; text = text; parent = parent; stamp = n.stamp }) (nodes_of (live_rows us))
-    node_there c n class text parent mc kc sc mn kn sn = in_filter_map (λ (u : Update). node_of (live_rows us) u.key u.said) (live_rows us) c _ (row_lives c mc class_attr kc)
-        (ap (λ k. node_of (live_rows us) k c.said) kc ∙ (ap (λ s. node_of (live_rows us) (RowOf o class_attr) s) sc
+    node_there c n class text parent mc kc book mn kn sn = in_filter_map (λ (u : Update). node_of (live_rows us) u.key u.said) (live_rows us) c _ (row_lives c mc class_attr kc)
+        (ap (λ k. node_of (live_rows us) k c.said) kc ∙ (ap (λ s. node_of (live_rows us) (RowOf o class_attr) s) book
         ∙ (ap (λ r. option_and_then (λ u. with_name o class u.stamp u.said) r) (name_found n mn kn) ∙ ap (λ s. with_name o class n.stamp s) sn)))

@@ -1,6 +1,6 @@
 -- What calls leave of a controller that is shut off, and what they answer in its name.
 use Rattle.std.proofs.Common.{◌≡◌, ◌≢◌, ℕ, List, [], ◌∷◌, ◌++◌, Bool, true, false, Option, Some, None, Result, Ok, Err, refl, sym, ap, ◌∙◌, subst, fold, length}
-use Rattle.adr_disk.specs.declared.memory.Crash.TheVariants.{Kept as KeptAll, Lost, Torn}
+use Rattle.adr_disk.specs.declared.memory.Crash.TheVariants.{Kept, Lost, Torn}
 use Rattle.adr_call.specs.declared.outcome.Outcome.{Outcome}
 use Rattle.adr_call.specs.declared.outcome.Outcome.TheVariants as outcomes
 use Rattle.adr_call.specs.declared.refusal.Table.TheVariants.{Log}
@@ -23,7 +23,9 @@ use Rattle.adr_model.specs.Collect.{collect, backup, adopt, quarantine}
 use Rattle.adr_model.specs.Upgrade.{upgrade}
 use Rattle.adr_model.specs.Lengths.{log_limit, new_log, area_fits, change_fits}
 use Rattle.adr_model.specs.Refused.{serve_refused, take_refused, adopt_refused, full}
-use Rattle.adr_model.specs.Replica.{Pending, ToWrite, ToTake, ToCollect, ToUpgrade, ToQuarantine, Standing, Up, Down, Failed, Stops, Fails, Plan, Replica, on_disk, on_new_disk, Book, begun, Move, Begin, Settle, Forget, moved, Went, Passed, Met, moves_of_commit, moves_of_start, standing_after, outcome_after, Device, commit_goes, start_goes, device_after_commit, device_after_start, device_settled}
+use Rattle.adr_disk.specs.declared.memory.Mishap.TheVariants.{Fails, Stops}
+use Rattle.adr_disk.specs.declared.memory.Plan.{Plan}
+use Rattle.adr_model.specs.Replica.{Pending, ToWrite, ToTake, ToCollect, ToUpgrade, ToQuarantine, Standing, Up, Down, Failed, Replica, on_disk, on_new_disk, Book, begun, Move, Begin, Settle, Forget, moved, Went, Passed, Met, moves_of_commit, moves_of_start, standing_after, outcome_after, Device, commit_goes, start_goes, device_after_commit, device_after_start, device_settled}
 use Rattle.adr_model.specs.World.{Name, World, Snapshot, Gone, Sent, stays, nothing, replica_at, with_replica, of_made, where_up, of_controller, within_log, committed, commit, writes, after_write, after_collect, after_upgrade, asks, after_serve, served, serves_request, after_take, delivered, delivers, backed_up, begins, adopts, of_image, put_back, with_plan, stops, started, starts}
 use Rattle.adr_law_rollback.specs.ShutOff.{RefusesAll, RestsAs, RestsIn, is_done}
 use Rattle.adr_law_rollback.proofs.Placing.{name_case, FoundAmong, found_named, replaced, spared, first_stays, rests_too}
@@ -67,18 +69,18 @@ module _ (s : State) where
   other_standing : (r : Replica) → RestsAs s r → (standing : Standing) (device : Device) → RestsAs s (record r { standing = standing; device = device })
   other_standing r is standing device = record { safe = is.safe; read = is.read; kept = is.kept }
 
-  settled_rests : (sc : Book) (r : Replica) → RestsAs s r → RestsAs s (moved (sc, r) Settle).1
-  settled_rests sc r is = record { safe = is.read; read = is.read; kept = refl }
+  settled_rests : (book : Book) (r : Replica) → RestsAs s r → RestsAs s (moved (book, r) Settle).1
+  settled_rests book r is = record { safe = is.read; read = is.read; kept = refl }
 
-  forgotten_rests : (sc : Book) (r : Replica) → RestsAs s r → RestsAs s (moved (sc, r) Forget).1
-  forgotten_rests sc r is = record { safe = is.safe; read = is.safe; kept = refl }
+  forgotten_rests : (book : Book) (r : Replica) → RestsAs s r → RestsAs s (moved (book, r) Forget).1
+  forgotten_rests book r is = record { safe = is.safe; read = is.safe; kept = refl }
 
-  start_rests : (sc : Book) (r : Replica) → RestsAs s r → (g : Went) → RestsAs s (fold moved (sc, r) (moves_of_start g)).1
-  start_rests sc r is (Passed left) = settled_rests sc r is
-  start_rests sc r is (Met place Fails) = is
-  start_rests sc r is (Met place (Stops Lost)) = forgotten_rests sc r is
-  start_rests sc r is (Met place (Stops KeptAll)) = settled_rests sc r is
-  start_rests sc r is (Met place (Stops Torn)) = settled_rests sc r is
+  start_rests : (book : Book) (r : Replica) → RestsAs s r → (g : Went) → RestsAs s (fold moved (book, r) (moves_of_start g)).1
+  start_rests book r is (Passed left) = settled_rests book r is
+  start_rests book r is (Met place Fails) = is
+  start_rests book r is (Met place (Stops Lost)) = forgotten_rests book r is
+  start_rests book r is (Met place (Stops Kept)) = settled_rests book r is
+  start_rests book r is (Met place (Stops Torn)) = settled_rests book r is
 
 -- what comes of a start is nothing that is done
 start_not_done : (g : Went) → is_done (outcome_after g outcomes.Ok) ≡ false

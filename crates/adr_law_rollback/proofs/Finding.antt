@@ -16,7 +16,7 @@ use Rattle.adr_model.specs.Member.{Each}
 use Rattle.adr_model.specs.Refusing.{unless}
 use Rattle.adr_model.specs.Update.{Identifier, same_identifier}
 use Rattle.adr_model.specs.Place.{identifier}
-use Rattle.adr_model.specs.Store.{Kept, Normal, State, no_mark}
+use Rattle.adr_model.specs.Store.{PartnerMark, Normal, State, no_mark}
 use Rattle.adr_model.specs.Change.{Change, after}
 use Rattle.adr_model.specs.LocalLog.{IsOrdered}
 use Rattle.adr_model.specs.Formed.{IsFormed}
@@ -52,12 +52,12 @@ found_by_serving s q is more now = ap (λ o. unless o (reply_to s q now)) some
         ∙ first_met (nat_lt s.store.usn (shown_by s q)) (serves.RolledBack s.inv s.store.usn (shown_by s q)) _ (lt-ltb s.store.usn (shown_by s q) more)))
 
 -- the mark that is kept of a partner, or the first one
-kept_ordered : (partner : Identifier) (ks : List (Identifier × Kept)) → Each (λ (k : Identifier × Kept). IsOrdered k.1.mark) ks
+kept_ordered : (partner : Identifier) (ks : List (Identifier × PartnerMark)) → Each (λ (k : Identifier × PartnerMark). IsOrdered k.1.mark) ks
     → IsOrdered (unwrap_or (lookup (is_at (identifier_order partner)) ks) (record { inv = identifier 0; mark = no_mark })).mark
 kept_ordered partner [] all = record { prop = omega arith; obj = omega arith }
 kept_ordered partner (k ∷ ks) all = by (is_at (identifier_order partner) k.0) (kept_ordered partner ks (λ j m. all j (inr m)))
   where
-    none : Kept
+    none : PartnerMark
     none = record { inv = identifier 0; mark = no_mark }
 
     by : (b : Bool) → IsOrdered (unwrap_or (lookup (is_at (identifier_order partner)) ks) none).mark

@@ -10,7 +10,8 @@ use Rattle.adr_model.specs.Lengths.{log_limit}
 use Rattle.adr_model.specs.Collect.{quarantine}
 use Rattle.adr_model.specs.Serve.{Reply, shown_by}
 use Rattle.adr_model.specs.Refused.{full, serve_refused, take_refused}
-use Rattle.adr_model.specs.Replica.{Pending, ToQuarantine, Up, Failed, Plan, Replica, recorded, moved, went, moves_of_commit, standing_after, outcome_after, calls_before, behind as behind_calls, device_after_commit}
+use Rattle.adr_disk.specs.declared.memory.Plan.{Plan}
+use Rattle.adr_model.specs.Replica.{Pending, ToQuarantine, Up, Failed, Replica, recorded, moved, went, moves_of_commit, standing_after, outcome_after, calls_before, behind as behind_calls, device_after_commit}
 use Rattle.adr_model.specs.World.{Name, World, Gone, Sent, stays, nothing, not_sent, with_replica, of_made, where_up, committed, quarantines, after_serve, served, serves_request, after_take, delivered, delivers}
 use Rattle.adr_law_rollback.specs.Found.{IsReady, IsShutOffNow, ServingShutsOff, TakingShutsOff}
 use Rattle.adr_law_rollback.proofs.Placing.{found_named, replaced}

@@ -11,7 +11,8 @@ use Rattle.adr_model.specs.Member.{Each}
 use Rattle.adr_model.specs.Store.{Quarantined, Store, State, empty_state}
 use Rattle.adr_model.specs.Write.{write_meant, Revive}
 use Rattle.adr_model.specs.Collect.{backup}
-use Rattle.adr_model.specs.Replica.{Stops, Fails, on_new_disk}
+use Rattle.adr_disk.specs.declared.memory.Mishap.TheVariants.{Fails, Stops}
+use Rattle.adr_model.specs.Replica.{on_new_disk}
 use Rattle.adr_model.specs.World.{Name, World, Sent, answer, nothing, bound, bound_at, asks, serves_request, of_controller, backed_up, reported}
 use Rattle.adr_model.specs.Cycles.{reply_limit}
 use Rattle.adr_model.specs.Step.{gives, told_bound, revival, stepped, step, after_lines, answers}
@@ -70,8 +71,8 @@ module _ (name : Name) (s : State) (closed : s.mode ≡ Quarantined) where
     step_still (events.Snapshot n bind) spares =
         one_bound _ n (copied name s closed w i n) (λ v t. record v { snapshots = bound v.snapshots bind t }) (λ v t j. j) (copies_hold name s closed w i n)
     step_still (events.Rollback n snapshot) spares = let t = rollbacks_hold name s closed w i n spares (bound_at w.snapshots snapshot) in (t.0, one _ n _ t.1)
-    step_still (events.StopAfter n calls how) spares = let t = plans_hold name s closed w i n (record { calls = calls; fault = Stops how }) in (t.0, one _ n _ t.1)
-    step_still (events.Fail n calls) spares = let t = plans_hold name s closed w i n (record { calls = calls; fault = Fails }) in (t.0, one _ n _ t.1)
+    step_still (events.StopAfter n calls how) spares = let t = plans_hold name s closed w i n (record { calls = calls; mishap = Stops how }) in (t.0, one _ n _ t.1)
+    step_still (events.Fail n calls) spares = let t = plans_hold name s closed w i n (record { calls = calls; mishap = Fails }) in (t.0, one _ n _ t.1)
     step_still (events.Stop n) spares = let t = stops_hold name s closed w i n in (t.0, one _ n _ t.1)
     step_still (events.Start n) spares = let t = starts_hold name s closed w i n in (t.0, one _ n _ t.1)
     step_still (events.Report n what) spares = let t = reports_hold name s closed w i n (λ r. reported w r.safe what) (λ r. reported_undone w r.safe what) in (t.0, one _ n _ t.1)

@@ -12,7 +12,8 @@ use Rattle.adr_model.specs.Serve.{Request, Reply, ask, serve_refusal, serve_refu
 use Rattle.adr_model.specs.Lengths.{change_fits}
 use Rattle.adr_model.specs.Refused.{serve_refused}
 use Rattle.adr_model.specs.Collect.{quarantine}
-use Rattle.adr_model.specs.Replica.{ToQuarantine, Standing, Up, Down, Failed, Stops, Fails, Went, Passed, Met, Pending, Replica, outcome_after, commit_goes}
+use Rattle.adr_disk.specs.declared.memory.Mishap.TheVariants.{Fails, Stops}
+use Rattle.adr_model.specs.Replica.{ToQuarantine, Standing, Up, Down, Failed, Went, Passed, Met, Pending, Replica, outcome_after, commit_goes}
 use Rattle.adr_model.specs.World.{Name, World, Gone, Sent, answer, replica_at, of_made, where_up, nothing, asks, after_serve, served, serves_request, committed, commit, quarantines}
 use Rattle.adr_model.specs.Cycles.{Pulled, first_told, pull_asked, pull, and_then, pull_version}
 use Rattle.adr_model.specs.Sound.{IsSoundWorld}

@@ -7,7 +7,7 @@ use Rattle.adr_stamp.specs.declared.Oid.{Oid}
 use Rattle.adr_stamp.specs.declared.Unit.{Unit as Named}
 use Rattle.adr_vector.specs.Vector.{Cursors, joined, raised}
 use Rattle.adr_model.specs.Update.{Identifier, Key, RowOf, LinkOf, Update, same_object, deleted_attr}
-use Rattle.adr_model.specs.Store.{Held, Kept, Mode, Normal, Store, State, with_row, is_row_of}
+use Rattle.adr_model.specs.Store.{Held, PartnerMark, Mode, Normal, Store, State, with_row, is_row_of}
 
 -- rows of one object, or a link row
 pub record Item : Type 0 where
@@ -25,7 +25,7 @@ pub record Change : Type 0 where
   pub usn : ℕ
   pub mode : Mode
   pub schema : ℕ
-  pub mark : Option (Identifier × Kept)
+  pub mark : Option (Identifier × PartnerMark)
   pub joined : Cursors
   pub times : Cursors
   pub purged : Cursors
@@ -66,7 +66,7 @@ without_object rows o = filter (λ h. not (is_row_of o h.update.key)) rows
 abbrev pub rows_after : List Oid → List Held → List Held → List Held
 rows_after removed writes rows = fold without_object (fold put rows writes) removed
 
-abbrev pub with_mark : Option (Identifier × Kept) → List (Identifier × Kept) → List (Identifier × Kept)
+abbrev pub with_mark : Option (Identifier × PartnerMark) → List (Identifier × PartnerMark) → List (Identifier × PartnerMark)
 with_mark None marks = marks
 with_mark (Some m) marks = insert_entry identifier_order marks m.0 m.1
 

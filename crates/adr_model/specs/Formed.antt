@@ -15,7 +15,7 @@ use Rattle.adr_model.specs.Member.{Member, Each}
 use Rattle.adr_model.specs.Update.{Identifier, Update, RowOf, LinkOf, Said, Holds, key_order, unit_of, ends, class_attr, name_attr, deleted_attr}
 use Rattle.adr_model.specs.Live.{objects_of}
 use Rattle.adr_model.specs.Reflects.{CoversBirth, HoldsObject, IsTombstoned}
-use Rattle.adr_model.specs.Store.{Held, Kept, Store, State, updates_of}
+use Rattle.adr_model.specs.Store.{Held, PartnerMark, Store, State, updates_of}
 use Rattle.adr_model.specs.Serve.{last_local}
 use Rattle.adr_model.specs.LocalLog.{IsOrdered}
 use Rattle.adr_model.specs.Write.{object_limit, link_limit, links_in}
@@ -82,7 +82,7 @@ pub record IsFormedStore (s : Store) : Type 0 where
   pub times : AreTimesOf s.vector s.times
   pub purged : IsVector s.purged
   pub purged_within : at_most s.purged s.vector ≡ true
-  pub marks : Each (λ (k : Identifier × Kept). IsOrdered k.1.mark) s.marks
+  pub marks : Each (λ (k : Identifier × PartnerMark). IsOrdered k.1.mark) s.marks
   pub rising : AreRising s.rows
   pub locals : Each (λ h. (1 ≤ h.local) × (h.local ≤ s.usn)) s.rows
   pub alone : AreAlone s.rows

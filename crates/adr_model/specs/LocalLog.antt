@@ -42,7 +42,7 @@ abbrev pub rows_at : LocalLog → ℕ → List Held
 rows_at h usn = after_changes (if nat_le h.start_usn usn then h.start_rows else []) h.changes usn
 
 -- no change begins at or before the USN and ends behind it
-pub record IsCut (h : LocalLog) (usn : ℕ) : Type 0 where
+pub record IsBoundary (h : LocalLog) (usn : ℕ) : Type 0 where
   pub start : (h.start_usn ≤ usn) ⊎ Each (λ x. usn < x.local) h.start_rows
   pub changes : Each (λ c. (c.usn ≤ usn) ⊎ Each (λ x. usn < x.local) (held_of c.writes)) h.changes
 

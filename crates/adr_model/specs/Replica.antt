@@ -3,8 +3,10 @@ use Rattle.std.specs.Prelude.{ℕ, ◌+◌, ◌-◌, List, [], ◌∷◌, ◌++�
 use Rattle.std.specs.Map.{lookup}
 use Rattle.std.specs.BTreeMap.{is_at, insert_entry}
 use Rattle.adr_stamp.specs.Order.{identifier_order}
-use Rattle.adr_disk.specs.declared.memory.Crash.{Crash}
-use Rattle.adr_disk.specs.declared.memory.Crash.TheVariants.{Kept as KeptAll, Lost, Torn}
+use Rattle.adr_disk.specs.declared.memory.Crash.TheVariants.{Kept, Lost, Torn}
+use Rattle.adr_disk.specs.declared.memory.Mishap.{Mishap}
+use Rattle.adr_disk.specs.declared.memory.Mishap.TheVariants.{Fails, Stops}
+use Rattle.adr_disk.specs.declared.memory.Plan.{Plan}
 use Rattle.adr_call.specs.declared.outcome.Outcome.{Outcome}
 use Rattle.adr_call.specs.declared.outcome.Outcome.TheVariants as outcomes
 use Rattle.adr_model.specs.Update.{Identifier, Update}
@@ -56,15 +58,6 @@ pub data Standing : Type 0 where
   Down : Standing
   Failed : Standing
 
-pub data Fault : Type 0 where
-  Stops : (how : Crash) → Fault
-  Fails : Fault
-
--- the device call behind so many further ones meets a fault
-pub record Plan : Type 0 where
-  pub calls : ℕ
-  pub fault : Fault
-
 -- what a run knows of a disk beside the states: where the log stands that a start would find, and the one that a crash would leave that loses the unsynced; and the plan
 pub record Device : Type 0 where
   pub read_log : Log
@@ -98,14 +91,14 @@ pub record Book : Type 0 where
   pub logs : List (Identifier × LocalLog)
 
 abbrev pub log_of : Book → Identifier → LocalLog
-log_of sc inv = unwrap_or (lookup (is_at (identifier_order inv)) sc.logs) no_log
+log_of book inv = unwrap_or (lookup (is_at (identifier_order inv)) book.logs) no_log
 
 -- an incarnation begins with what its state has
 abbrev pub begun : Book → State → Book
-begun sc s =
+begun book s =
     record {
-      issued = sc.issued;
-      logs = insert_entry identifier_order sc.logs s.inv (first_log s.store.usn s.store.rows);
+      issued = book.issued;
+      logs = insert_entry identifier_order book.logs s.inv (first_log s.store.usn s.store.rows);
     }
 
 abbrev pub with_change : LocalLog → Change → LocalLog
@@ -113,10 +106,10 @@ with_change h c = record { start_usn = h.start_usn; start_rows = h.start_rows; c
 
 -- a change of an incarnation becomes safe
 abbrev pub recorded : Book → Identifier → Pending → Book
-recorded sc inv p =
+recorded book inv p =
     record {
-      issued = sc.issued ++ issued_by p.call p.change;
-      logs = insert_entry identifier_order sc.logs inv (with_change (log_of sc inv) p.change);
+      issued = book.issued ++ issued_by p.call p.change;
+      logs = insert_entry identifier_order book.logs inv (with_change (log_of book inv) p.change);
     }
 
 -- ---- moves
@@ -127,8 +120,8 @@ pub data Move : Type 0 where
   Forget : Move
 
 abbrev settled : Option Pending → Book → Identifier → Book
-settled None sc inv = sc
-settled (Some p) sc inv = recorded sc inv p
+settled None book inv = book
+settled (Some p) book inv = recorded book inv p
 
 -- a change begins: a start would find it. It settles: it is safe. Or it is forgotten
 abbrev pub moved : Book × Replica → Move → Book × Replica
@@ -138,21 +131,21 @@ moved t Forget = (t.0, record t.1 { read = t.1.safe; kept = None })
 
 -- ---- device calls
 
--- how device calls go: all pass, and a plan may wait on, or the one at a place meets a fault
+-- how device calls go: all pass, and a plan may wait on, or the one at a place meets a mishap
 pub data Went : Type 0 where
   Passed : (left : Option Plan) → Went
-  Met : (place : ℕ) (fault : Fault) → Went
+  Met : (place : ℕ) (mishap : Mishap) → Went
 
 abbrev pub went : Option Plan → ℕ → Went
 went None calls = Passed None
-went (Some p) calls = if nat_le calls p.calls then Passed (Some (record { calls = p.calls - calls; fault = p.fault })) else Met p.calls p.fault
+went (Some p) calls = if nat_le calls p.calls then Passed (Some (record { calls = p.calls - calls; mishap = p.mishap })) else Met p.calls p.mishap
 
 -- the calls of a commit: the body, a sync, the gate, a sync. The gate is found by a start; the last sync makes it safe
 abbrev pub moves_of_commit : Pending → Went → List Move
 moves_of_commit p (Passed left) = Begin p ∷ Settle ∷ []
 moves_of_commit p (Met place Fails) = if place == 3 then Begin p ∷ [] else []
 moves_of_commit p (Met place (Stops Lost)) = if place == 3 then Begin p ∷ Forget ∷ [] else []
-moves_of_commit p (Met place (Stops KeptAll)) = if nat_le 2 place then Begin p ∷ Settle ∷ [] else []
+moves_of_commit p (Met place (Stops Kept)) = if nat_le 2 place then Begin p ∷ Settle ∷ [] else []
 moves_of_commit p (Met place (Stops Torn)) = if nat_le 2 place then Begin p ∷ Settle ∷ [] else []
 
 -- a start is one sync
@@ -160,10 +153,10 @@ abbrev pub moves_of_start : Went → List Move
 moves_of_start (Passed left) = Settle ∷ []
 moves_of_start (Met place Fails) = []
 moves_of_start (Met place (Stops Lost)) = Forget ∷ []
-moves_of_start (Met place (Stops KeptAll)) = Settle ∷ []
+moves_of_start (Met place (Stops Kept)) = Settle ∷ []
 moves_of_start (Met place (Stops Torn)) = Settle ∷ []
 
--- a fault of a start leaves the controller as it stood
+-- a start that fails leaves the controller as it stood
 abbrev pub standing_after : Standing → Went → Standing
 standing_after faulty (Passed left) = Up
 standing_after faulty (Met place (Stops how)) = Down
@@ -171,7 +164,7 @@ standing_after faulty (Met place Fails) = faulty
 
 abbrev pub plan_after : Went → Option Plan
 plan_after (Passed left) = left
-plan_after (Met place fault) = None
+plan_after (Met place mishap) = None
 
 abbrev pub outcome_after : Went → Outcome → Outcome
 outcome_after (Passed left) outcome = outcome
@@ -188,7 +181,7 @@ abbrev pub logs_of_record : Log → Log → Went → Log × Log
 logs_of_record l next (Passed left) = rest next
 logs_of_record l next (Met place Fails) = if place == 3 then (next, l) else rest l
 logs_of_record l next (Met place (Stops Lost)) = rest l
-logs_of_record l next (Met place (Stops KeptAll)) = rest (if nat_le 2 place then next else l)
+logs_of_record l next (Met place (Stops Kept)) = rest (if nat_le 2 place then next else l)
 logs_of_record l next (Met place (Stops Torn)) = rest (if nat_le 2 place then next else l)
 
 -- the five calls of a checkpoint: the area, the slot, a sync, the selector, a sync. A torn selector selects the second slot
@@ -196,7 +189,7 @@ abbrev pub logs_of_checkpoint : Log → Log → Went → Log × Log
 logs_of_checkpoint l next (Passed left) = rest next
 logs_of_checkpoint l next (Met place Fails) = if place == 4 then (next, l) else rest l
 logs_of_checkpoint l next (Met place (Stops Lost)) = rest l
-logs_of_checkpoint l next (Met place (Stops KeptAll)) = rest (if nat_le 3 place then next else l)
+logs_of_checkpoint l next (Met place (Stops Kept)) = rest (if nat_le 3 place then next else l)
 logs_of_checkpoint l next (Met place (Stops Torn)) = rest (if nat_le 3 place && next.second then next else l)
 
 -- a start is one sync
@@ -207,7 +200,7 @@ abbrev pub logs_of_start : Log → Log → Went → Log × Log
 logs_of_start read safe (Passed left) = rest read
 logs_of_start read safe (Met place Fails) = (read, safe)
 logs_of_start read safe (Met place (Stops Lost)) = rest safe
-logs_of_start read safe (Met place (Stops KeptAll)) = rest read
+logs_of_start read safe (Met place (Stops Kept)) = rest read
 logs_of_start read safe (Met place (Stops Torn)) = rest (torn_log read safe)
 
 abbrev device_of : Log × Log → Went → Device
@@ -221,7 +214,7 @@ calls_before r p = if is_due r.device.safe_log p.change then 5 else 0
 
 abbrev pub behind : ℕ → Went → Went
 behind n (Passed left) = Passed left
-behind n (Met place fault) = Met (place - n) fault
+behind n (Met place mishap) = Met (place - n) mishap
 
 -- how a commit goes, from the first call of its record on: one that goes wrong before is as the first
 abbrev pub commit_goes : Replica → Pending → Went
@@ -235,7 +228,7 @@ recorded_on l next plan = let g = went plan 4 in device_of (logs_of_record l nex
 
 abbrev pub checkpointed_on : Log → Log → Log → Went → Device
 checkpointed_on l mid next (Passed left) = recorded_on mid next left
-checkpointed_on l mid next (Met place fault) = device_of (logs_of_checkpoint l mid (Met place fault)) (Met place fault)
+checkpointed_on l mid next (Met place mishap) = device_of (logs_of_checkpoint l mid (Met place mishap)) (Met place mishap)
 
 abbrev pub device_after_commit : Replica → Pending → Device
 device_after_commit r p =

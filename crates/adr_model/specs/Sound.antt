@@ -11,9 +11,9 @@ use Rattle.adr_model.specs.Member.{Member, Each}
 use Rattle.adr_model.specs.Update.{Identifier, Update, RowOf, Holds, ends, inv_of, usn_of, unit_of, class_attr}
 use Rattle.adr_model.specs.Place.{identifier}
 use Rattle.adr_model.specs.Reflects.{Numbers, Covers, Knowledge, knowledge_of, Reflects}
-use Rattle.adr_model.specs.Store.{Held, Kept, Normal, Store, State, updates_of}
+use Rattle.adr_model.specs.Store.{Held, PartnerMark, Normal, Store, State, updates_of}
 use Rattle.adr_model.specs.Change.{Item, Change, updates_written, after}
-use Rattle.adr_model.specs.LocalLog.{LocalLog, no_log, last_usn, rows_at, IsCut, IsKept, IsOrdered, IsBelow, WatermarkHolds}
+use Rattle.adr_model.specs.LocalLog.{LocalLog, no_log, last_usn, rows_at, IsBoundary, IsKept, IsOrdered, IsBelow, WatermarkHolds}
 use Rattle.adr_model.specs.Serve.{Request, Reply}
 use Rattle.adr_model.specs.Given.{IsWellGiven}
 use Rattle.adr_model.specs.Lengths.{Log, log_limit, log_version, log_after}
@@ -25,10 +25,10 @@ use Rattle.adr_model.specs.World.{LastReply, World, Name, Snapshot}
 
 -- the last USN of an incarnation, 0 for an identifier that wasn't used
 abbrev pub last_of : Book → Identifier → ℕ
-last_of sc inv = last_usn (log_of sc inv)
+last_of book inv = last_usn (log_of book inv)
 
 abbrev pub IsBounded : Book → Numbers → Type 0
-IsBounded sc V = (i : Identifier) → V i ≤ last_of sc i
+IsBounded book V = (i : Identifier) → V i ≤ last_of book i
 
 abbrev pub IsBirthOf : Oid → Update → Type 0
 IsBirthOf o u = (u.key ≡ RowOf o class_attr) × (is_birth o u ≡ true)
@@ -43,46 +43,46 @@ HasOneContent issued = Each (λ u. Each (λ v. u.key ≡ v.key → inv_of u ≡ 
 
 -- what was issued and the logs: that an identifier's USNs were used once, each by one change, and each object that is named was
 -- born
-pub record IsSoundBook (sc : Book) : Type 0 where
-  pub one_content : HasOneContent sc.issued
-  pub once : Each (λ u. (1 ≤ usn_of u) × (usn_of u ≤ last_of sc (inv_of u))) sc.issued
-  pub one_change : Each (λ u. Each (λ v. inv_of u ≡ inv_of v → usn_of u ≡ usn_of v → IsOfOneChange (log_of sc (inv_of u)) u v) sc.issued) sc.issued
-  pub born : Each (λ u. Each (λ o. (b : Update) × Member b sc.issued × IsBirthOf o b) (ends u.key)) sc.issued
-  pub births : Each (λ u. (o : Oid) → u.key ≡ RowOf o class_attr → is_birth o u ≡ true) sc.issued
-  pub kept : (i : Identifier) → IsKept (log_of sc i)
-  pub logged : (i : Identifier) (usn : ℕ) → Each (λ h. Member h.update sc.issued) (rows_at (log_of sc i) usn)
+pub record IsSoundBook (book : Book) : Type 0 where
+  pub one_content : HasOneContent book.issued
+  pub once : Each (λ u. (1 ≤ usn_of u) × (usn_of u ≤ last_of book (inv_of u))) book.issued
+  pub one_change : Each (λ u. Each (λ v. inv_of u ≡ inv_of v → usn_of u ≡ usn_of v → IsOfOneChange (log_of book (inv_of u)) u v) book.issued) book.issued
+  pub born : Each (λ u. Each (λ o. (b : Update) × Member b book.issued × IsBirthOf o b) (ends u.key)) book.issued
+  pub births : Each (λ u. (o : Oid) → u.key ≡ RowOf o class_attr → is_birth o u ≡ true) book.issued
+  pub kept : (i : Identifier) → IsKept (log_of book i)
+  pub logged : (i : Identifier) (usn : ℕ) → Each (λ h. Member h.update book.issued) (rows_at (log_of book i) usn)
 
 -- a mark of an incarnation tells the truth, of a moment between two changes
-pub record IsSoundMark (sc : Book) (k : Knowledge) (inv : Identifier) (m : Mark) : Type 0 where
+pub record IsSoundMark (book : Book) (k : Knowledge) (inv : Identifier) (m : Mark) : Type 0 where
   pub ordered : IsOrdered m
-  pub seen : m.seen ≤ last_of sc inv
-  pub cut : IsCut (log_of sc inv) m.seen
-  pub watermark : WatermarkHolds sc.issued k (log_of sc inv) m
+  pub seen : m.seen ≤ last_of book inv
+  pub boundary : IsBoundary (log_of book inv) m.seen
+  pub watermark : WatermarkHolds book.issued k (log_of book inv) m
 
 abbrev pub AreClassesKnown : Table → List Update → Type 0
 AreClassesKnown table rows = Each (λ u. (class : ℕ) → u.said ≡ Holds (Class class) → IsSome (class_at table class)) rows
 
 -- a store has taken each issued update that its vector covers
-pub record IsSoundStore (sc : Book) (s : Store) : Type 0 where
-  pub known : Each (λ u. Member u sc.issued) (updates_of s.rows)
-  pub bounded : IsBounded sc (at s.vector)
-  pub covered : Each (λ u. Covers (at s.vector) u → Reflects sc.issued (knowledge_of s) u) sc.issued
+pub record IsSoundStore (book : Book) (s : Store) : Type 0 where
+  pub known : Each (λ u. Member u book.issued) (updates_of s.rows)
+  pub bounded : IsBounded book (at s.vector)
+  pub covered : Each (λ u. Covers (at s.vector) u → Reflects book.issued (knowledge_of s) u) book.issued
   pub formed : IsFormedStore s
   pub closed : IsClosed s
   pub classes : AreClassesKnown (numbered s.schema) (updates_of s.rows)
-  pub marks : Each (λ (k : Identifier × Kept). IsSoundMark sc (knowledge_of s) k.1.inv k.1.mark) s.marks
+  pub marks : Each (λ (k : Identifier × PartnerMark). IsSoundMark book (knowledge_of s) k.1.inv k.1.mark) s.marks
 
 -- a controller's state is what its log says
-pub record IsSoundState (sc : Book) (s : State) : Type 0 where
-  pub store : IsSoundStore sc s.store
+pub record IsSoundState (book : Book) (s : State) : Type 0 where
+  pub store : IsSoundStore book s.store
   pub formed : IsFormed s
-  pub last : s.store.usn ≡ last_of sc s.inv
-  pub rows : s.store.rows ≡ rows_at (log_of sc s.inv) s.store.usn
+  pub last : s.store.usn ≡ last_of book s.inv
+  pub rows : s.store.rows ≡ rows_at (log_of book s.inv) s.store.usn
 
-pub record IsSoundRequest (sc : Book) (q : Request) : Type 0 where
-  pub bounded : IsBounded sc (at q.vector)
+pub record IsSoundRequest (book : Book) (q : Request) : Type 0 where
+  pub bounded : IsBounded book (at q.vector)
   pub ordered : IsOrdered q.mark
-  pub seen : q.mark.seen ≤ last_of sc q.inv
+  pub seen : q.mark.seen ≤ last_of book q.inv
 
 abbrev pub IsSent : Reply → Update → Type 0
 IsSent r u = (i : Item) × Member i r.items × Member u i.rows
@@ -97,13 +97,13 @@ abbrev pub CarriesAll : List Update → Reply → LocalLog → Cursors → Type 
 CarriesAll issued r h carried =
     Each (λ u. Covers (at carried) u → Reflects issued (record { rows = updates_of (rows_at h r.to.seen); vector = at carried; purged = at r.asked }) u) issued
 
-pub record IsSoundLast (sc : Book) (r : Reply) (carried : Cursors) : Type 0 where
+pub record IsSoundLast (book : Book) (r : Reply) (carried : Cursors) : Type 0 where
   pub obj : r.to.obj ≡ r.to.seen
   pub prop : r.to.prop ≡ r.to.seen
   pub vector : IsVector carried
   pub times : AreTimesOf carried r.times
-  pub bounded : IsBounded sc (at carried)
-  pub carries : CarriesAll sc.issued r (log_of sc r.inv) carried
+  pub bounded : IsBounded book (at carried)
+  pub carries : CarriesAll book.issued r (log_of book r.inv) carried
 
 -- an item has a row, and is the whole unseen part of its unit
 pub record IsExact (rows : List Held) (r : Reply) (i : Item) : Type 0 where
@@ -111,35 +111,35 @@ pub record IsExact (rows : List Held) (r : Reply) (i : Item) : Type 0 where
   pub from : Each (λ u. (h : Held) × Member h rows × (h.update ≡ u) × (unit_of u.key ≡ i.unit)) i.rows
   pub whole : Each (λ h. unit_of h.update.key ≡ i.unit → Member h.update i.rows ⊎ (Covers (at r.asked) h.update ⊎ (h.local ≤ r.from.prop))) rows
 
-pub record IsSoundReply (sc : Book) (r : Reply) : Type 0 where
+pub record IsSoundReply (book : Book) (r : Reply) : Type 0 where
   pub to_ordered : IsOrdered r.to
-  pub to_seen : r.to.seen ≤ last_of sc r.inv
-  pub to_cut : IsCut (log_of sc r.inv) r.to.seen
+  pub to_seen : r.to.seen ≤ last_of book r.inv
+  pub to_boundary : IsBoundary (log_of book r.inv) r.to.seen
   pub from_ordered : IsOrdered r.from
   pub forward : r.from.seen ≤ r.to.seen
-  pub asked : IsBounded sc (at r.asked)
-  pub known : (u : Update) → IsSent r u → Member u sc.issued
-  pub ground : CoversItsGround r (log_of sc r.inv)
-  pub last : IfSome r.last (IsSoundLast sc r)
-  pub exact : Each (IsExact (rows_at (log_of sc r.inv) r.to.seen) r) r.items
+  pub asked : IsBounded book (at r.asked)
+  pub known : (u : Update) → IsSent r u → Member u book.issued
+  pub ground : CoversItsGround r (log_of book r.inv)
+  pub last : IfSome r.last (IsSoundLast book r)
+  pub exact : Each (IsExact (rows_at (log_of book r.inv) r.to.seen) r) r.items
   pub once : Each (λ i. Each (λ j. i.unit ≡ j.unit → i ≡ j) r.items) r.items
-  pub rising : AreRising (rows_at (log_of sc r.inv) r.to.seen)
-  pub formed : AreFormedRows (numbered r.schema) (updates_of (rows_at (log_of sc r.inv) r.to.seen))
-  pub classes : AreClassesKnown (numbered r.schema) (updates_of (rows_at (log_of sc r.inv) r.to.seen))
+  pub rising : AreRising (rows_at (log_of book r.inv) r.to.seen)
+  pub formed : AreFormedRows (numbered r.schema) (updates_of (rows_at (log_of book r.inv) r.to.seen))
+  pub classes : AreClassesKnown (numbered r.schema) (updates_of (rows_at (log_of book r.inv) r.to.seen))
 
 -- a call that may be kept: a write as clients give it, a sound reply, a collection or an upgrade. No controller shows that it was
 -- put back, so none is quarantined
 abbrev pub IsSoundCall : Book → Call → Type 0
-IsSoundCall sc (ToWrite w now) = IsWellGiven w
-IsSoundCall sc (ToTake reply) = IsSoundReply sc reply
-IsSoundCall sc (ToCollect now lifetime) = Unit {0}
-IsSoundCall sc ToUpgrade = Unit {0}
-IsSoundCall sc ToQuarantine = ⊥
+IsSoundCall book (ToWrite w now) = IsWellGiven w
+IsSoundCall book (ToTake reply) = IsSoundReply book reply
+IsSoundCall book (ToCollect now lifetime) = Unit {0}
+IsSoundCall book ToUpgrade = Unit {0}
+IsSoundCall book ToQuarantine = ⊥
 
 -- a change that isn't safe is that of the kept call, and the controller isn't up
-pub record IsPending (sc : Book) (r : Replica) (p : Pending) : Type 0 where
+pub record IsPending (book : Book) (r : Replica) (p : Pending) : Type 0 where
   pub kept : r.kept ≡ Some p
-  pub call : IsSoundCall sc p.call
+  pub call : IsSoundCall book p.call
   pub made : change_of r.safe p.call ≡ Some p.change
   pub read : r.read ≡ after r.safe p.change
   pub not_up : r.standing ≢ Up
@@ -147,16 +147,16 @@ pub record IsPending (sc : Book) (r : Replica) (p : Pending) : Type 0 where
 abbrev pub IsSettled : Replica → Type 0
 IsSettled r = (r.kept ≡ None) × (r.read ≡ r.safe)
 
-pub record IsSoundReplica (sc : Book) (r : Replica) : Type 0 where
-  pub safe : IsSoundState sc r.safe
-  pub read : IsSettled r ⊎ ((p : Pending) × IsPending sc r p)
+pub record IsSoundReplica (book : Book) (r : Replica) : Type 0 where
+  pub safe : IsSoundState book r.safe
+  pub read : IsSettled r ⊎ ((p : Pending) × IsPending book r p)
 
 -- an identifier that a line gave, or the zero that stands for none
 abbrev pub IsGiven : World → Identifier → Type 0
 IsGiven w inv = Member inv w.given.invs ⊎ (inv ≡ identifier 0)
 
 abbrev pub AreMarksGiven : World → Store → Type 0
-AreMarksGiven w s = Each (λ (k : Identifier × Kept). IsGiven w k.1.inv) s.marks
+AreMarksGiven w s = Each (λ (k : Identifier × PartnerMark). IsGiven w k.1.inv) s.marks
 
 -- at this moment a last reply of the incarnation was made, at a USN that the vector covers
 pub record WasTold (told : List LastReply) (vector : Cursors) (t : Identifier × ℕ) : Type 0 where

@@ -10,7 +10,8 @@ use Rattle.adr_event.specs.Verbs.{verb_of_report, verb_of_write, word_of}
 use Rattle.adr_model.specs.Write.{Write, Revive, write_meant}
 use Rattle.adr_model.specs.Collect.{collect, backup, adopt}
 use Rattle.adr_model.specs.Upgrade.{upgrade}
-use Rattle.adr_model.specs.Replica.{Stops, Fails, on_new_disk, begun}
+use Rattle.adr_disk.specs.declared.memory.Mishap.TheVariants.{Fails, Stops}
+use Rattle.adr_model.specs.Replica.{on_new_disk, begun}
 use Rattle.adr_model.specs.World.{World, Name, Gone, Sent, answer, stays, nothing, bound, bound_at, replica_at, with_replica, reported, of_made, of_controller, of_image, writes, after_collect, after_upgrade, asks, serves_request, delivers, backed_up, adopts, put_back, with_plan, stops, starts}
 use Rattle.adr_model.specs.Cycles.{pull, cycle}
 use Rattle.adr_model.specs.Rings.{rings}
@@ -82,9 +83,9 @@ step_of_other w (events.Snapshot name bind) =
 step_of_other w (events.Rollback name snapshot) =
     told (codes "rollback") name (of_made (stays w) (replica_at w name) (λ r. put_back w name (bound_at w.snapshots snapshot)))
 step_of_other w (events.StopAfter name calls how) =
-    told (codes "stop") name (of_made (stays w) (replica_at w name) (λ r. with_plan w r (record { calls = calls; fault = Stops how })))
+    told (codes "stop") name (of_made (stays w) (replica_at w name) (λ r. with_plan w r (record { calls = calls; mishap = Stops how })))
 step_of_other w (events.Fail name calls) =
-    told (codes "fail") name (of_made (stays w) (replica_at w name) (λ r. with_plan w r (record { calls = calls; fault = Fails })))
+    told (codes "fail") name (of_made (stays w) (replica_at w name) (λ r. with_plan w r (record { calls = calls; mishap = Fails })))
 step_of_other w (events.Stop name) = told (codes "stop") name (of_made (stays w) (replica_at w name) (λ r. stops w r))
 step_of_other w (events.Start name) = told (codes "start") name (of_made (stays w) (replica_at w name) (λ r. starts w r r.standing))
 step_of_other w (events.Report name what) =

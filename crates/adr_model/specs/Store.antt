@@ -42,7 +42,7 @@ abbrev pub holds_dead : List Held → Oid → Bool
 holds_dead rows o = is_some (row_held rows (RowOf o deleted_attr))
 
 -- how far an incarnation of a partner was read (after MS-DRSR USN_VECTOR)
-pub record Kept : Type 0 where
+pub record PartnerMark : Type 0 where
   pub inv : Identifier
   pub mark : Mark
 
@@ -54,7 +54,7 @@ pub record Store : Type 0 where
   pub vector : Cursors
   pub times : Cursors  -- when each incarnation was last read whole, where that is known
   pub purged : Cursors  -- covers the births and deaths of what was collected
-  pub marks : List (Identifier × Kept)  -- by partner, rising
+  pub marks : List (Identifier × PartnerMark)  -- by partner, rising
 
 pub data Mode : Type 0 where
   Normal : Mode
@@ -79,9 +79,9 @@ abbrev pub no_mark : Mark
 no_mark = record { obj = 0; prop = 0; seen = 0 }
 
 -- what is kept of a partner
-abbrev pub kept_of : Store → Identifier → Kept
+abbrev pub kept_of : Store → Identifier → PartnerMark
 kept_of s partner = unwrap_or (lookup (is_at (identifier_order partner)) s.marks) (record { inv = identifier 0; mark = no_mark })
 
 -- a mark, as far as it speaks of this incarnation
-abbrev pub mark_of : Kept → Identifier → Mark
+abbrev pub mark_of : PartnerMark → Identifier → Mark
 mark_of k inv = if same_identifier k.inv inv then k.mark else no_mark

@@ -23,7 +23,7 @@ use Rattle.adr_model.specs.Update.{Identifier, Update}
 use Rattle.adr_model.specs.Visible.{visible}
 use Rattle.adr_model.specs.Directory.{directory}
 use Rattle.adr_vector.specs.declared.mark.Mark.{Mark}
-use Rattle.adr_model.specs.Store.{Kept, State, Store, updates_of}
+use Rattle.adr_model.specs.Store.{PartnerMark, State, Store, updates_of}
 use Rattle.adr_model.specs.Change.{Change, Item}
 use Rattle.adr_model.specs.Serve.{Request, Reply, ask, serve}
 use Rattle.adr_model.specs.Write.{Write, write}
@@ -31,7 +31,8 @@ use Rattle.adr_model.specs.Take.{take}
 use Rattle.adr_model.specs.Collect.{quarantine}
 use Rattle.adr_model.specs.Refused.{write_refused, serve_refused, take_refused, collect_refused, upgrade_refused, adopt_refused, quarantined, full}
 use Rattle.adr_model.specs.Lengths.{Log, log_limit, new_log, area_fits, change_fits}
-use Rattle.adr_model.specs.Replica.{ToWrite, ToTake, ToCollect, ToUpgrade, ToQuarantine, Pending, Standing, Up, Down, Failed, Plan, Replica, on_disk, on_new_disk, Book, begun, Move, Settle, Device, moved, moves_of_commit, moves_of_start, standing_after, outcome_after, commit_goes, start_goes, device_after_commit, device_after_start, device_settled}
+use Rattle.adr_disk.specs.declared.memory.Plan.{Plan}
+use Rattle.adr_model.specs.Replica.{ToWrite, ToTake, ToCollect, ToUpgrade, ToQuarantine, Pending, Standing, Up, Down, Failed, Replica, on_disk, on_new_disk, Book, begun, Move, Settle, Device, moved, moves_of_commit, moves_of_start, standing_after, outcome_after, commit_goes, start_goes, device_after_commit, device_after_start, device_settled}
 
 abbrev pub Name : Type 0
 Name = List ℕ
@@ -105,7 +106,7 @@ shown w s = directory (if w.clean then in_view w s else updates_of s.store.rows)
 
 -- how far each partner was read: its identifier, the incarnation that was read, and the mark
 abbrev pub marks_shown : Store → List (Identifier × Identifier × Mark)
-marks_shown s = map (λ (k : Identifier × Kept). (k.0, k.1.inv, k.1.mark)) s.marks
+marks_shown s = map (λ (k : Identifier × PartnerMark). (k.0, k.1.inv, k.1.mark)) s.marks
 
 -- what a client is told that asks a controller for a report
 abbrev pub reported : World → State → Report → Outcome

@@ -47,7 +47,7 @@ pub record IsTelling (p q : Post) (o : Outside) : Type 0 where
 
 -- The next connection was hung up behind some of its messages, at the point x. What was sent in it are the answers to these,
 -- and no line was written.
-pub record IsCut (p : Post) (x : Point) (o : Outside) : Type 0 where
+pub record IsHungUp (p : Post) (x : Point) (o : Outside) : Type 0 where
   pub came : List ℕ
   pub rest : List (List ℕ)
   pub opens : p.waiting ≡ came ∷ rest
@@ -94,11 +94,11 @@ stopped (Err faults.NoMemory) = Err stops.NoMemory
 abbrev pub StopsAt : (Found State → Type 0) → (Point → Type 0) → ℕ → Post → Stop → Outside → Type 0
 StopsAt at fallen number p stops.Link o = at p.stands × IsAt p o
 StopsAt at fallen number p stops.Write o = (q : Post) × Connects number p q × at q.stands × IsTelling p q o
-StopsAt at fallen number p stops.Disk o = (x : Point) × IsCut p x o × fallen x
-StopsAt at fallen number p stops.Clock o = (x : Point) × IsCut p x o × IsAtLine x × at x.stands × (o.clock ≡ Some x.moments)
+StopsAt at fallen number p stops.Disk o = (x : Point) × IsHungUp p x o × fallen x
+StopsAt at fallen number p stops.Clock o = (x : Point) × IsHungUp p x o × IsAtLine x × at x.stands × (o.clock ≡ Some x.moments)
 StopsAt at fallen number p stops.NoMemory o =
     (at p.stands × IsAt p o)
-    ⊎ (((x : Point) × (y : Point) × IsCut p x o × IsNear x y × at y.stands)
+    ⊎ (((x : Point) × (y : Point) × IsHungUp p x o × IsNear x y × at y.stands)
     ⊎ ((q : Post) × Connects number p q × at q.stands × IsTelling p q o))
 
 -- the next connection

@@ -11,7 +11,7 @@ use Rattle.adr_vector.proofs.Joining.{at-joined, from_one-joined, rising-joined}
 use Rattle.adr_model.specs.Change.{Change, after, rows_after, with_mark}
 use Rattle.adr_model.specs.Collect.{woken}
 use Rattle.adr_model.specs.Formed.{IsFormedStore}
-use Rattle.adr_model.specs.Store.{Held, Kept, Normal, State, Store}
+use Rattle.adr_model.specs.Store.{Held, PartnerMark, Normal, State, Store}
 use Rattle.adr_model.specs.Update.{Identifier}
 use Rattle.adr_state.specs.Refusal.{IsOverfull}
 use Rattle.adr_image.specs.Anew.{MakesAll}
@@ -55,6 +55,6 @@ overfull_is s dsa inv formed (inr many) = let few = formed.purged.few in absurd 
 -- ---- marks
 
 -- marks that rise are made anew, one after the other
-pub all_kept : (s : State) (marks : List (Identifier × Kept)) → IsStrictlySortedBy identifier_order (map (λ (k : Identifier × Kept). k.0) s.store.marks)
-    → marks ≡ fold (λ ms (m : Identifier × Kept). with_mark (Some m) ms) [] s.store.marks → with_marks marks (with_marks [] s) ≡ s
-all_kept s marks rise made = ap (λ (ms : List (Identifier × Kept)). with_marks ms s) (made ∙ entries_anew identifier_order nat_list_cmp_total s.store.marks rise)
+pub all_kept : (s : State) (marks : List (Identifier × PartnerMark)) → IsStrictlySortedBy identifier_order (map (λ (k : Identifier × PartnerMark). k.0) s.store.marks)
+    → marks ≡ fold (λ ms (m : Identifier × PartnerMark). with_mark (Some m) ms) [] s.store.marks → with_marks marks (with_marks [] s) ≡ s
+all_kept s marks rise made = ap (λ (ms : List (Identifier × PartnerMark)). with_marks ms s) (made ∙ entries_anew identifier_order nat_list_cmp_total s.store.marks rise)

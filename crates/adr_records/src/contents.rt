@@ -9,14 +9,14 @@ ghost use Rattle.adr_records.specs.Logged.{IsLogged};
 use adr_failure::NoMemory;
 use adr_guid::Guid;
 use adr_image::{ContentsRef, encode};
-use adr_state::{Held, Kept, State};
+use adr_state::{Held, PartnerMark, State};
 use std::alloc::Global;
 
 /// What a state's database says, by its rows and marks.
 fn contents_of<'a>(
     state: &'a State,
     rows: &'a [&'a Held],
-    marks: &'a [(Guid, Kept)],
+    marks: &'a [(Guid, PartnerMark)],
 ) -> ContentsRef<'a>
     requires rows { referents rows.now ≡ state.now.store.rows }
     requires marks { marks.now ≡ state.now.store.marks }

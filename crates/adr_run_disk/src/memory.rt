@@ -75,21 +75,21 @@ impl MemDisk {
 
     /// Lets so many writes and syncs pass, and crashes within the next.
     pub fn stop_after(&mut self, calls: u32, how: Crash)
-        ensures { self.new ≡ record self.old { plan = Some (record { calls = calls; mishap = Mishap.Crash how }) } }
+        ensures { self.new ≡ record self.old { plan = Some (record { calls = calls; mishap = Mishap.Stops how }) } }
     {
         self.plan = Some(Plan {
             calls,
-            mishap: Mishap::Crash(how),
+            mishap: Mishap::Stops(how),
         });
     }
 
     /// Lets so many writes and syncs pass, and fails the next, which changes nothing.
     pub fn fail_after(&mut self, calls: u32)
-        ensures { self.new ≡ record self.old { plan = Some (record { calls = calls; mishap = Mishap.Failure }) } }
+        ensures { self.new ≡ record self.old { plan = Some (record { calls = calls; mishap = Mishap.Fails }) } }
     {
         self.plan = Some(Plan {
             calls,
-            mishap: Mishap::Failure,
+            mishap: Mishap::Fails,
         });
     }
 
@@ -127,7 +127,7 @@ impl MemDisk {
         ensures { result ≡ meets self.now Syncs }
     {
         if self.stopped {
-            return Some(Mishap::Failure);
+            return Some(Mishap::Fails);
         }
         match self.plan {
             Some(Plan { calls: 0, mishap }) => Some(mishap),
@@ -137,7 +137,7 @@ impl MemDisk {
 
     /// Fails a call. A plan that has met it is done.
     fn fail(&mut self) -> Fault
-        ensures failed { result ≡ Fault.Failed → self.new ≡ failed Mishap.Failure Syncs self.old }
+        ensures failed { result ≡ Fault.Failed → self.new ≡ failed Mishap.Fails Syncs self.old }
         ensures no_memory { result ≡ Fault.NoMemory → self.new ≡ self.old }
         ensures limit { result ≡ Fault.NoMemory → self.old.faults ≡ 2 ^ 64 - 1 }
     {
@@ -192,7 +192,7 @@ impl MemDisk {
         requires calls { 0 < self.old.held.room_calls }
         requires room { length bytes.now ≤ self.old.held.room_bytes }
         ensures failed { result ≡ Fault.Failed
-            → SameState (failed (Mishap.Crash how) (Writes at bytes.now) self.old) self.new }
+            → SameState (failed (Mishap.Stops how) (Writes at bytes.now) self.old) self.new }
         ensures no_memory { result ≡ Fault.NoMemory → self.new ≡ self.old }
         ensures limit { result ≡ Fault.NoMemory → self.old.faults ≡ 2 ^ 64 - 1 }
         ensures spare { IsSpare (spare_calls_of self.old) self.old.held.room_bytes (spare_calls_of self.new + 1) (self.new.held.room_bytes + length bytes.now) }
@@ -221,8 +221,8 @@ impl MemDisk {
                 self.pass_write(at, bytes);
                 Ok(())
             }
-            Some(Mishap::Failure) => Err(self.fail()),
-            Some(Mishap::Crash(how)) => Err(self.crash_in_write(at, bytes, how)),
+            Some(Mishap::Fails) => Err(self.fail()),
+            Some(Mishap::Stops(how)) => Err(self.crash_in_write(at, bytes, how)),
         }
     }
 
@@ -238,7 +238,7 @@ impl MemDisk {
     /// A sync within which it crashes.
     fn crash_in_sync(&mut self, how: Crash) -> Fault
         requires { self.old.stopped ≡ false }
-        ensures failed { result ≡ Fault.Failed → SameState (failed (Mishap.Crash how) Syncs self.old) self.new }
+        ensures failed { result ≡ Fault.Failed → SameState (failed (Mishap.Stops how) Syncs self.old) self.new }
         ensures no_memory { result ≡ Fault.NoMemory → self.new ≡ self.old }
         ensures limit { result ≡ Fault.NoMemory → self.old.faults ≡ 2 ^ 64 - 1 }
         ensures spare { IsSpare (spare_calls_of self.old) self.old.held.room_bytes (spare_calls_of self.new + 1) self.new.held.room_bytes }
@@ -262,8 +262,8 @@ impl MemDisk {
                 self.pass_sync();
                 Ok(())
             }
-            Some(Mishap::Failure) => Err(self.fail()),
-            Some(Mishap::Crash(how)) => Err(self.crash_in_sync(how)),
+            Some(Mishap::Fails) => Err(self.fail()),
+            Some(Mishap::Stops(how)) => Err(self.crash_in_sync(how)),
         }
     }
 }

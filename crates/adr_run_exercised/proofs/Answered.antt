@@ -14,7 +14,8 @@ use Rattle.adr_model.specs.Change.{Change}
 use Rattle.adr_model.specs.Collect.{quarantine}
 use Rattle.adr_model.specs.Lengths.{change_fits}
 use Rattle.adr_model.specs.Refused.{serve_refused, take_refused}
-use Rattle.adr_model.specs.Replica.{Pending, ToTake, ToQuarantine, Standing, Plan, Replica, went, behind, calls_before, outcome_after, commit_goes}
+use Rattle.adr_disk.specs.declared.memory.Plan.{Plan}
+use Rattle.adr_model.specs.Replica.{Pending, ToTake, ToQuarantine, Standing, Replica, went, behind, calls_before, outcome_after, commit_goes}
 use Rattle.adr_model.specs.Serve.{Request, Reply, serve}
 use Rattle.adr_model.specs.Take.{take}
 use Rattle.adr_model.specs.World.{Name, World, Gone, Sent, answer, stays, nothing, replica_at, of_made, where_up, of_controller, committed, commit, asks, after_serve, served, serves_request, after_take, delivered, delivers}

@@ -4,7 +4,7 @@ use Rattle.adr_call.specs.declared.outcome.Outcome.{Outcome}
 use Rattle.adr_call.specs.declared.outcome.Outcome.TheVariants as outcomes
 use Rattle.adr_call.specs.declared.refusal.Table.TheVariants.{Log}
 use Rattle.adr_call.specs.declared.refusal.CollectRefusal.{CollectRefusal}
-use Rattle.adr_disk.specs.declared.memory.Crash.TheVariants.{Kept as KeptAll, Lost, Torn}
+use Rattle.adr_disk.specs.declared.memory.Crash.TheVariants.{Kept, Lost, Torn}
 use Rattle.adr_event.specs.declared.event.Event.{Event}
 use Rattle.adr_event.specs.declared.event.Event.TheVariants as events
 use Rattle.adr_stamp.specs.declared.Oid.{Oid}
@@ -18,7 +18,8 @@ use Rattle.adr_model.specs.Change.{Change, after}
 use Rattle.adr_model.specs.Lengths.{change_fits, log_limit}
 use Rattle.adr_model.specs.Collect.{deaths_to_collect, collection, collect}
 use Rattle.adr_model.specs.Refused.{full, collect_refused}
-use Rattle.adr_model.specs.Replica.{Pending, ToCollect, issued_by, Up, Failed, Stops, Fails, Replica, Book, Move, Begin, Settle, Forget, moved, Went, Passed, Met, moves_of_commit, standing_after, commit_goes, device_after_commit}
+use Rattle.adr_disk.specs.declared.memory.Mishap.TheVariants.{Fails, Stops}
+use Rattle.adr_model.specs.Replica.{Pending, ToCollect, issued_by, Up, Failed, Replica, Book, Move, Begin, Settle, Forget, moved, Went, Passed, Met, moves_of_commit, standing_after, commit_goes, device_after_commit}
 use Rattle.adr_model.specs.World.{Name, World, Gone, stays, with_replica, committed, of_controller, after_collect}
 use Rattle.adr_model.specs.Step.{step, after_lines}
 use Rattle.adr_model.specs.Sound.{IsSoundState, IsSoundWorld}
@@ -90,21 +91,21 @@ module _ (w : World) (sound : IsSoundWorld w) where
 -- ---- worlds
 
 -- a change that issues nothing leaves what was issued
-issues_nothing : (sc : Book) (r : Replica) (p : Pending) → issued_by p.call p.change ≡ [] → (g : Went) → (fold moved (sc, r) (moves_of_commit p g)).0.issued ≡ sc.issued
-issues_nothing sc r p none = by
+issues_nothing : (book : Book) (r : Replica) (p : Pending) → issued_by p.call p.change ≡ [] → (g : Went) → (fold moved (book, r) (moves_of_commit p g)).0.issued ≡ book.issued
+issues_nothing book r p none = by
   where
-    settles : sc.issued ++ issued_by p.call p.change ≡ sc.issued
-    settles = ap (λ us. sc.issued ++ us) none ∙ append-nil sc.issued
+    settles : book.issued ++ issued_by p.call p.change ≡ book.issued
+    settles = ap (λ us. book.issued ++ us) none ∙ append-nil book.issued
 
-    tested : (b : Bool) (ms : List Move) → (fold moved (sc, r) ms).0.issued ≡ sc.issued → (fold moved (sc, r) (if b then ms else [])).0.issued ≡ sc.issued
+    tested : (b : Bool) (ms : List Move) → (fold moved (book, r) ms).0.issued ≡ book.issued → (fold moved (book, r) (if b then ms else [])).0.issued ≡ book.issued
     tested true ms h = h
     tested false ms h = refl
 
-    by : (g : Went) → (fold moved (sc, r) (moves_of_commit p g)).0.issued ≡ sc.issued
+    by : (g : Went) → (fold moved (book, r) (moves_of_commit p g)).0.issued ≡ book.issued
     by (Passed left) = settles
     by (Met place Fails) = tested (place == 3) (Begin p ∷ []) refl
     by (Met place (Stops Lost)) = tested (place == 3) (Begin p ∷ Forget ∷ []) refl
-    by (Met place (Stops KeptAll)) = tested (nat_le 2 place) (Begin p ∷ Settle ∷ []) settles
+    by (Met place (Stops Kept)) = tested (nat_le 2 place) (Begin p ∷ Settle ∷ []) settles
     by (Met place (Stops Torn)) = tested (nat_le 2 place) (Begin p ∷ Settle ∷ []) settles
 
 -- moves change no name

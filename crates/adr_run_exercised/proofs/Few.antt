@@ -5,7 +5,7 @@ use Rattle.adr_call.specs.declared.outcome.Outcome.TheVariants as outcomes
 use Rattle.adr_call.specs.declared.refusal.AdoptRefusal.{AdoptRefusal}
 use Rattle.adr_call.specs.declared.write.Write.{Write as Asked}
 use Rattle.adr_call.specs.declared.write.Write.TheVariants as asked
-use Rattle.adr_disk.specs.declared.memory.Crash.TheVariants.{Kept as KeptAll, Lost, Torn}
+use Rattle.adr_disk.specs.declared.memory.Crash.TheVariants.{Kept, Lost, Torn}
 use Rattle.adr_event.specs.declared.event.Event.{Event}
 use Rattle.adr_event.specs.declared.event.Event.TheVariants as events
 use Rattle.adr_schema.specs.Assignments.{Given}
@@ -24,7 +24,9 @@ use Rattle.adr_model.specs.Lengths.{new_log, area_fits, change_fits}
 use Rattle.adr_model.specs.Serve.{units_of, last_local}
 use Rattle.adr_model.specs.Write.{Write, AddObject, Modify, Rename, Delete, AddLink, RemoveLink, Revive, write_meant, row, next_row, new_rows, new_object, first_stamp, entry_in, nodes_held, object_of, rows_written, more_written, items_written, own_change, write_refusal, write}
 use Rattle.adr_model.specs.Collect.{adopt}
-use Rattle.adr_model.specs.Replica.{Call, ToWrite, ToTake, ToCollect, ToUpgrade, ToQuarantine, change_of, issued_by, Pending, Up, Down, Failed, Stops, Fails, Replica, on_new_disk, Book, begun, Move, Begin, Settle, Forget, moved, Went, Passed, Met, Plan, moves_of_commit, standing_after, commit_goes, device_after_commit, device_settled}
+use Rattle.adr_disk.specs.declared.memory.Mishap.TheVariants.{Fails, Stops}
+use Rattle.adr_disk.specs.declared.memory.Plan.{Plan}
+use Rattle.adr_model.specs.Replica.{Call, ToWrite, ToTake, ToCollect, ToUpgrade, ToQuarantine, change_of, issued_by, Pending, Up, Down, Failed, Replica, on_new_disk, Book, begun, Move, Begin, Settle, Forget, moved, Went, Passed, Met, moves_of_commit, standing_after, commit_goes, device_after_commit, device_settled}
 use Rattle.adr_model.specs.World.{Name, World, Gone, stays, bound_at, replica_at, with_replica, of_made, of_image, after_moves, adopts}
 use Rattle.adr_model.specs.Cycles.{reply_limit, pull_version}
 use Rattle.adr_model.specs.Step.{gives, step, after_lines}
@@ -134,20 +136,20 @@ issues_one s w now c one made = subst (λ (x : Change). Each (λ u. unit_of u.ke
 
 -- a commit issues what its call does, or nothing
 abbrev IssueOrNot : Book → Replica → Pending → List Move → Type 0
-IssueOrNot sc r p ms = ((fold moved (sc, r) ms).0.issued ≡ sc.issued) ⊎ ((fold moved (sc, r) ms).0.issued ≡ sc.issued ++ issued_by p.call p.change)
+IssueOrNot book r p ms = ((fold moved (book, r) ms).0.issued ≡ book.issued) ⊎ ((fold moved (book, r) ms).0.issued ≡ book.issued ++ issued_by p.call p.change)
 
-issued_or_not : (sc : Book) (r : Replica) (p : Pending) (g : Went) → IssueOrNot sc r p (moves_of_commit p g)
-issued_or_not sc r p = by
+issued_or_not : (book : Book) (r : Replica) (p : Pending) (g : Went) → IssueOrNot book r p (moves_of_commit p g)
+issued_or_not book r p = by
   where
-    tested : (b : Bool) (ms : List Move) → IssueOrNot sc r p ms → IssueOrNot sc r p (if b then ms else [])
+    tested : (b : Bool) (ms : List Move) → IssueOrNot book r p ms → IssueOrNot book r p (if b then ms else [])
     tested true ms h = h
     tested false ms h = inl refl
 
-    by : (g : Went) → IssueOrNot sc r p (moves_of_commit p g)
+    by : (g : Went) → IssueOrNot book r p (moves_of_commit p g)
     by (Passed left) = inr refl
     by (Met place Fails) = tested (place == 3) (Begin p ∷ []) (inl refl)
     by (Met place (Stops Lost)) = tested (place == 3) (Begin p ∷ Forget ∷ []) (inl refl)
-    by (Met place (Stops KeptAll)) = tested (nat_le 2 place) (Begin p ∷ Settle ∷ []) (inr refl)
+    by (Met place (Stops Kept)) = tested (nat_le 2 place) (Begin p ∷ Settle ∷ []) (inr refl)
     by (Met place (Stops Torn)) = tested (nat_le 2 place) (Begin p ∷ Settle ∷ []) (inr refl)
 
 -- who is put in place of the one of its name is there

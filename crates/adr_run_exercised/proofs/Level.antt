@@ -40,8 +40,8 @@ own_or_other own i = by (bytes_eq i own) refl
     by false is = inr (λ e. let t : bytes_eq i own ≡ true = same_name_tests i own e in absurd (cc))
 
 -- all that was issued under its own identifier a controller covers
-pub own_covered : (sc : Book) (s : State) (u : Update) → IsSoundBook sc → IsSoundState sc s → Member u sc.issued → inv_of u ≡ s.inv → Covers (at s.store.vector) u
-own_covered sc s u book is m own = omega (arith, (book.once u m).1, ap (last_of sc) own, ap (at s.store.vector) own, is.last, is.formed.own)
+pub own_covered : (book : Book) (s : State) (u : Update) → IsSoundBook book → IsSoundState book s → Member u book.issued → inv_of u ≡ s.inv → Covers (at s.store.vector) u
+own_covered book s u sound_book is m own = omega (arith, (sound_book.once u m).1, ap (last_of book) own, ap (at s.store.vector) own, is.last, is.formed.own)
 
 -- ---- a whole cycle
 

@@ -22,7 +22,8 @@ use Rattle.adr_model.specs.Write.{Write, write_meant, write}
 use Rattle.adr_model.specs.Take.{take}
 use Rattle.adr_model.specs.Collect.{collect, backup, adopt, quarantine}
 use Rattle.adr_model.specs.Refused.{serve_refused, take_refused}
-use Rattle.adr_model.specs.Replica.{Pending, ToWrite, ToTake, ToCollect, ToQuarantine, Up, Failed, Plan, Replica, on_new_disk, begun, moved, went, behind, calls_before, moves_of_commit, standing_after, commit_goes, device_after_commit}
+use Rattle.adr_disk.specs.declared.memory.Plan.{Plan}
+use Rattle.adr_model.specs.Replica.{Pending, ToWrite, ToTake, ToCollect, ToQuarantine, Up, Failed, Replica, on_new_disk, begun, moved, went, behind, calls_before, moves_of_commit, standing_after, commit_goes, device_after_commit}
 use Rattle.adr_model.specs.World.{Name, World, Gone, Sent, stays, nothing, bound_at, replica_at, with_replica, of_made, of_controller, of_image, committed, commit, quarantines, after_write, writes, after_collect, asks, after_serve, served, serves_request, after_take, delivered, delivers, backed_up, adopts}
 use Rattle.adr_model.specs.Cycles.{pull, pulls, reply_limit, pull_version}
 use Rattle.adr_model.specs.Step.{gives, step, after_lines}

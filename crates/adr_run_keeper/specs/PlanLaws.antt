@@ -6,7 +6,7 @@ use Rattle.adr_io.specs.declared.Fault.{Fault as Cause}
 use Rattle.adr_io.specs.declared.Fault.TheVariants.{Failed as failed_call, NoMemory as no_memory}
 use Rattle.adr_disk.specs.declared.memory.Crash.TheVariants.{Lost, Torn}
 use Rattle.adr_disk.specs.declared.memory.Mishap.{Mishap}
-use Rattle.adr_disk.specs.declared.memory.Mishap.TheVariants.{Failure}
+use Rattle.adr_disk.specs.declared.memory.Mishap.TheVariants.{Fails}
 use Rattle.adr_disk.specs.Disk.{Looks, Syncs, Writes, Call, Through}
 use Rattle.adr_disk.specs.Memory.{DiskState, Surface, read_of, left_by, IsImage, SameState, meets, planned, failed, one_less, Does}
 use Rattle.adr_disk.proofs.Outcomes.{IsImage-left_by}
@@ -21,7 +21,7 @@ use Rattle.adr_law_journal.specs.Areas.{Began, Found, Started, start_of, TellsAr
 use Rattle.adr_law_journal.specs.Commits.{Commits, Checkpoints}
 use Rattle.adr_law_journal.specs.Kept.{Layout}
 use Rattle.adr_law_journal.specs.Planned.{IsReadyToCommit, IsNextArea}
-use Rattle.adr_law_journal.specs.Replicas.{plan_of, read_found, safe_found, Has, CommitLeads, committed, started}
+use Rattle.adr_law_journal.specs.Replicas.{read_found, safe_found, Has, CommitLeads, committed, started}
 use Rattle.adr_law_journal.proofs.Counts.{enough, too_few}
 use Rattle.adr_law_journal.proofs.Logs.{length_u32}
 use Rattle.adr_law_journal.proofs.Settled.{stands}
@@ -37,7 +37,7 @@ use Rattle.adr_journal.specs.declared.keeper.StartRefusal.TheVariants as starts
 -- a disk in memory that isn't stopped lets itself be looked at
 no_look : (old new : DiskState) → old.stopped ≡ false → Does old Looks (Some failed_call) new → ⊥
 no_look old new up does =
-    let none : meets old Looks ≡ None = ap (λ (b : Bool). if b then Some Failure else planned old.plan Looks) up in
+    let none : meets old Looks ≡ None = ap (λ (b : Bool). if b then Some Fails else planned old.plan Looks) up in
     subst (λ (o : Option Mishap). IsSomeAnd o (λ mishap. SameState (failed mishap Looks old) new)) none does
 
 -- what fits: a change, and an image where a checkpoint is due
@@ -79,10 +79,10 @@ module _ {K : Type 0} (head : Reading Ids) (area : Ids → Reading (Began State)
   find = start_of head area following
 
   abbrev pub has : K → Replica → Type 0
-  has = Has (λ k. find (read_of (disk k).held.surface)) (λ k. find (disk k).held.surface.synced) (λ k. find (left_by Torn (disk k).held.surface)) (λ k. plan_of (disk k).plan)
+  has = Has (λ k. find (read_of (disk k).held.surface)) (λ k. find (disk k).held.surface.synced) (λ k. find (left_by Torn (disk k).held.surface)) (λ k. (disk k).plan)
 
   abbrev is_on : DiskState → Replica → Type 0
-  is_on = Has (λ (d : DiskState). find (read_of d.held.surface)) (λ (d : DiskState). find d.held.surface.synced) (λ (d : DiskState). find (left_by Torn d.held.surface)) (λ (d : DiskState). plan_of d.plan)
+  is_on = Has (λ (d : DiskState). find (read_of d.held.surface)) (λ (d : DiskState). find d.held.surface.synced) (λ (d : DiskState). find (left_by Torn d.held.surface)) (λ (d : DiskState). d.plan)
 
   abbrev pub is_stopped : K → Bool
   is_stopped k = (disk k).stopped
@@ -98,7 +98,7 @@ module _ {K : Type 0} (head : Reading Ids) (area : Ids → Reading (Began State)
     is_read = ap (λ (s : Surface). find (read_of s)) same.held.surface ∙ on.is_read;
     is_safe = ap (λ (s : Surface). find s.synced) same.held.surface ∙ on.is_safe;
     is_torn = ap (λ (s : Surface). find (left_by Torn s)) same.held.surface ∙ on.is_torn;
-    is_plan = ap plan_of same.plan ∙ on.is_plan;
+    is_plan = same.plan ∙ on.is_plan;
   }
 
   -- ---- before a commit
@@ -277,7 +277,7 @@ module _ {K : Type 0} (head : Reading Ids) (area : Ids → Reading (Began State)
   Quiet d = (d.plan ≡ None) × (d.stopped ≡ false)
 
   unmet : (d : DiskState) (call : Call) → Quiet d → meets d call ≡ None
-  unmet d call quiet = ap (λ (b : Bool). if b then Some Failure else planned d.plan call) quiet.1 ∙ ap (λ p. planned p call) quiet.0 ∙ by call
+  unmet d call quiet = ap (λ (b : Bool). if b then Some Fails else planned d.plan call) quiet.1 ∙ ap (λ p. planned p call) quiet.0 ∙ by call
     where
       by : (call : Call) → planned None call ≡ None
       by Looks = refl
@@ -304,21 +304,21 @@ module _ {K : Type 0} (head : Reading Ids) (area : Ids → Reading (Began State)
   format_fails written d new quiet (inr (first, a, inl b)) = no_through first new 1 written (still_through d first 0 _ quiet a) b
   format_fails written d new quiet (inr (first, a, inr (second, b, c))) = no_through second new 0 _ (still_through first second 1 written (still_through d first 0 _ quiet a) b) c
 
-  pub formats_so : (k new : K) (e : Option KeeperRefusal) → is_stopped k ≡ false → plan_of (disk k).plan ≡ None → FormatsDisk Does (disk k) e (disk new)
-      → (plan_of (disk new).plan ≡ None) × (is_stopped new ≡ false) × (e ≡ Some DiskFault → ⊥)
+  pub formats_so : (k new : K) (e : Option KeeperRefusal) → is_stopped k ≡ false → (disk k).plan ≡ None → FormatsDisk Does (disk k) e (disk new)
+      → ((disk new).plan ≡ None) × (is_stopped new ≡ false) × (e ≡ Some DiskFault → ⊥)
   formats_so k new e up none ran = by e ran
     where
-      unplanned : (p : _) → plan_of p ≡ None → p ≡ None
+      unplanned : (p : _) → p ≡ None → p ≡ None
       unplanned None is = refl
       unplanned (Some q) is = absurd (cc is)
 
       quiet : Quiet (disk k)
       quiet = (unplanned (disk k).plan none, up)
 
-      done : (d : DiskState) → Quiet d → (plan_of d.plan ≡ None) × (d.stopped ≡ false)
-      done d q = (ap plan_of q.0, q.1)
+      done : (d : DiskState) → Quiet d → (d.plan ≡ None) × (d.stopped ≡ false)
+      done d q = (q.0, q.1)
 
-      by : (e : Option KeeperRefusal) → FormatsDisk Does (disk k) e (disk new) → (plan_of (disk new).plan ≡ None) × (is_stopped new ≡ false) × (e ≡ Some DiskFault → ⊥)
+      by : (e : Option KeeperRefusal) → FormatsDisk Does (disk k) e (disk new) → ((disk new).plan ≡ None) × (is_stopped new ≡ false) × (e ≡ Some DiskFault → ⊥)
       by None (mid, look, (written, (first, second, a, b, c))) =
           let q = done (disk new) (still_through second (disk new) 0 _ (still_through first second 1 written (still_through mid first 0 _ (still (disk k) mid Looks quiet look) a) b) c) in
           (q.0, q.1, λ is. cc is)

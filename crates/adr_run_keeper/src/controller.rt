@@ -3,7 +3,8 @@
 ghost use Rattle.std.specs.Prelude.{◌≡◌, true, false, Option, Some, None, IfOk};
 ghost use Rattle.adr_disk.specs.Disk.{Keeps};
 ghost use Rattle.adr_model.specs.Change.{Change as Changes};
-ghost use Rattle.adr_model.specs.Replica.{Book, Fails, Pending, Replica, Stops};
+ghost use Rattle.adr_disk.specs.declared.memory.Mishap.TheVariants.{Fails, Stops};
+ghost use Rattle.adr_model.specs.Replica.{Book, Pending, Replica};
 ghost use Rattle.adr_law_journal.specs.Replicas.{Has, committed, read_found, safe_found};
 ghost use Rattle.adr_run_keeper.specs.Planned.{left_found, Same};
 ghost use Rattle.adr_controller.specs.declared.refusal.Hindrance.{Hindrance};
@@ -20,7 +21,7 @@ use std::alloc::Global;
 /// Lets so many writes and syncs of its disk pass, and crashes within the next.
 #[tactic(auto, using(crate::proofs::Orders::still_in_order))]
 pub fn stop_after<K: PlannedKeeper>(controller: &mut Controller<K>, calls: u32, how: Crash)
-    ensures plan { K.plan controller.new.keeper ≡ Some (record { calls = calls; fault = Stops how }) }
+    ensures plan { K.plan controller.new.keeper ≡ Some (record { calls = calls; mishap = Stops how }) }
     ensures same { Same K.read K.safe K.torn K.is_failed controller.old.keeper controller.new.keeper }
     ensures running { K.has_stopped controller.new.keeper ≡ K.has_stopped controller.old.keeper }
     ensures keeps { Keeps K.told K.may_leave K.moment K.left_since controller.old.keeper controller.new.keeper }
@@ -33,7 +34,7 @@ pub fn stop_after<K: PlannedKeeper>(controller: &mut Controller<K>, calls: u32, 
 /// Lets so many writes and syncs of its disk pass, and fails the next, which changes nothing.
 #[tactic(auto, using(crate::proofs::Orders::still_in_order))]
 pub fn fail_after<K: PlannedKeeper>(controller: &mut Controller<K>, calls: u32)
-    ensures plan { K.plan controller.new.keeper ≡ Some (record { calls = calls; fault = Fails }) }
+    ensures plan { K.plan controller.new.keeper ≡ Some (record { calls = calls; mishap = Fails }) }
     ensures same { Same K.read K.safe K.torn K.is_failed controller.old.keeper controller.new.keeper }
     ensures running { K.has_stopped controller.new.keeper ≡ K.has_stopped controller.old.keeper }
     ensures keeps { Keeps K.told K.may_leave K.moment K.left_since controller.old.keeper controller.new.keeper }

@@ -39,7 +39,6 @@ impl<F: Form> PlannedKeeper for Journal<MemDisk, F> {
     ghost use Rattle.adr_disk.specs.Memory.{read_of, left_by};
     ghost use Rattle.adr_disk.specs.declared.memory.Crash.TheVariants.{Torn};
     ghost use Rattle.adr_law_journal.specs.Areas.{start_of};
-    ghost use Rattle.adr_law_journal.specs.Replicas.{plan_of};
     ghost use Rattle.adr_run_keeper.specs.PlanLaws.{prepares_so, commits_so, starts_so, formats_so, keeps_so};
 
     ghost read = { λ j. start_of F.head F.area F.following (read_of j.disk.held.surface) };
@@ -48,7 +47,7 @@ impl<F: Form> PlannedKeeper for Journal<MemDisk, F> {
 
     ghost torn = { λ j. start_of F.head F.area F.following (left_by Torn j.disk.held.surface) };
 
-    ghost plan = { λ j. plan_of j.disk.plan };
+    ghost plan = { λ j. j.disk.plan };
 
     ghost has_stopped = { λ j. j.disk.stopped };
 

@@ -4,7 +4,9 @@ ghost use Rattle.std.specs.Prelude.{◌≡◌, ℕ, List, Bool, true, false, Opt
 ghost use Rattle.adr_disk.specs.Disk.{Keeps};
 ghost use Rattle.adr_model.specs.Store.{State as Defined};
 ghost use Rattle.adr_model.specs.Change.{Change as Changes};
-ghost use Rattle.adr_model.specs.Replica.{Stops, Fails, Plan, Replica, Pending, Book};
+ghost use Rattle.adr_disk.specs.declared.memory.Mishap.TheVariants.{Fails, Stops};
+ghost use Rattle.adr_disk.specs.declared.memory.Plan.{Plan};
+ghost use Rattle.adr_model.specs.Replica.{Replica, Pending, Book};
 ghost use Rattle.adr_law_journal.specs.Areas.{Found, Started};
 ghost use Rattle.adr_law_journal.specs.Replicas.{read_found, safe_found, Has, committed, started};
 ghost use Rattle.adr_run_keeper.specs.Planned.{left_found, Same, CommitsAs, StartsAs};
@@ -36,7 +38,7 @@ pub trait PlannedKeeper: Keeper {
 
     /// Lets so many writes and syncs pass, and crashes within the next.
     fn stop_after(&mut self, calls: u32, how: Crash)
-        ensures plan { plan self.new ≡ Some (record { calls = calls; fault = Stops how }) }
+        ensures plan { plan self.new ≡ Some (record { calls = calls; mishap = Stops how }) }
         ensures same { Same read safe torn Self.is_failed self.old self.new }
         ensures running { has_stopped self.new ≡ has_stopped self.old }
         ensures at { (f : Found Defined) → Self.is_at self.old f → Self.is_at self.new f }
@@ -45,7 +47,7 @@ pub trait PlannedKeeper: Keeper {
 
     /// Lets so many writes and syncs pass, and fails the next, which changes nothing.
     fn fail_after(&mut self, calls: u32)
-        ensures plan { plan self.new ≡ Some (record { calls = calls; fault = Fails }) }
+        ensures plan { plan self.new ≡ Some (record { calls = calls; mishap = Fails }) }
         ensures same { Same read safe torn Self.is_failed self.old self.new }
         ensures running { has_stopped self.new ≡ has_stopped self.old }
         ensures at { (f : Found Defined) → Self.is_at self.old f → Self.is_at self.new f }

@@ -4,7 +4,9 @@ use Rattle.std.specs.Prelude.{IfOk, IfSome, IfErr, OnOk, OnErr, MatchOption, is_
 use Rattle.adr_call.specs.declared.outcome.Outcome.TheVariants as outcomes
 use Rattle.adr_model.specs.Update.{Identifier}
 use Rattle.adr_model.specs.Store.{State}
-use Rattle.adr_model.specs.Replica.{Replica, Pending, Plan, Went, Passed, Met, Stops, Fails, moves_of_start, start_goes, standing_after, Standing, Up, Failed}
+use Rattle.adr_disk.specs.declared.memory.Mishap.TheVariants.{Fails, Stops}
+use Rattle.adr_disk.specs.declared.memory.Plan.{Plan}
+use Rattle.adr_model.specs.Replica.{Replica, Pending, Went, Passed, Met, moves_of_start, start_goes, standing_after, Standing, Up, Failed}
 use Rattle.adr_model.specs.World.{World, starts}
 use Rattle.adr_law_journal.specs.Areas.{Started}
 use Rattle.adr_law_journal.specs.Replicas.{Has, started}

@@ -10,7 +10,8 @@ use Rattle.adr_model.specs.Store.{State}
 use Rattle.adr_model.specs.Change.{Change}
 use Rattle.adr_model.specs.Lengths.{log_limit, change_fits}
 use Rattle.adr_model.specs.Refused.{full}
-use Rattle.adr_model.specs.Replica.{Replica, Pending, Plan, Book, moved, moves_of_commit, commit_goes, outcome_after, Up, Down as stands_down, Failed as stands_failed}
+use Rattle.adr_disk.specs.declared.memory.Plan.{Plan}
+use Rattle.adr_model.specs.Replica.{Replica, Pending, Book, moved, moves_of_commit, commit_goes, outcome_after, Up, Down as stands_down, Failed as stands_failed}
 use Rattle.adr_model.specs.World.{World, Gone, Sent, commit, stays, nothing, not_sent, where_up, with_replica}
 use Rattle.adr_model.specs.World.{committed as committed_in}
 use Rattle.adr_law_journal.specs.Areas.{Found, found, Started}

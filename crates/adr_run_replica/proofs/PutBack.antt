@@ -3,7 +3,8 @@ use Rattle.std.proofs.Common.{◌≡◌, ◌∙◌, refl, sym, ap, subst, ℕ, L
 use Rattle.adr_wire.specs.Ranges.{IsId}
 use Rattle.adr_model.specs.Update.{Identifier}
 use Rattle.adr_model.specs.Store.{State}
-use Rattle.adr_model.specs.Replica.{Replica, Pending, Plan, Book, on_disk}
+use Rattle.adr_disk.specs.declared.memory.Plan.{Plan}
+use Rattle.adr_model.specs.Replica.{Replica, Pending, Book, on_disk}
 use Rattle.adr_model.specs.World.{Snapshot}
 use Rattle.adr_law_journal.specs.Areas.{Started}
 use Rattle.adr_law_journal.specs.Replicas.{Has, read_found, started}

@@ -4,7 +4,8 @@ use Rattle.adr_wire.specs.Ranges.{IsId}
 use Rattle.adr_model.specs.Update.{Identifier}
 use Rattle.adr_model.specs.Store.{State}
 use Rattle.adr_model.specs.Lengths.{Log}
-use Rattle.adr_model.specs.Replica.{Pending, Plan, Replica, Standing, torn_log}
+use Rattle.adr_disk.specs.declared.memory.Plan.{Plan}
+use Rattle.adr_model.specs.Replica.{Pending, Replica, Standing, torn_log}
 use Rattle.adr_law_journal.specs.Areas.{Found, found, Started}
 use Rattle.adr_law_journal.specs.Replicas.{Has, read_found, safe_found}
 use Rattle.adr_controller.specs.Running.{Running}

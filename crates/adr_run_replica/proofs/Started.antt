@@ -5,7 +5,8 @@ use Rattle.adr_call.specs.declared.outcome.Outcome.{Outcome}
 use Rattle.adr_call.specs.declared.outcome.Outcome.TheVariants as outcomes
 use Rattle.adr_model.specs.Update.{Identifier}
 use Rattle.adr_model.specs.Store.{State}
-use Rattle.adr_model.specs.Replica.{Replica, Pending, Plan, Book, Device, Move, moved, moves_of_start, standing_after, outcome_after, start_goes, device_after_start, Standing, Up, Failed}
+use Rattle.adr_disk.specs.declared.memory.Plan.{Plan}
+use Rattle.adr_model.specs.Replica.{Replica, Pending, Book, Device, Move, moved, moves_of_start, standing_after, outcome_after, start_goes, device_after_start, Standing, Up, Failed}
 use Rattle.adr_model.specs.World.{World, Gone, after_moves, starts, with_replica}
 use Rattle.adr_law_journal.specs.Areas.{Started}
 use Rattle.adr_law_journal.specs.Replicas.{Has, started, standing_of}

@@ -5,7 +5,8 @@ use Rattle.adr_call.specs.declared.outcome.Outcome.TheVariants as outcomes
 use Rattle.adr_model.specs.Update.{Identifier}
 use Rattle.adr_model.specs.Store.{State}
 use Rattle.adr_model.specs.Lengths.{new_log}
-use Rattle.adr_model.specs.Replica.{Replica, Pending, Plan, Up, on_new_disk}
+use Rattle.adr_disk.specs.declared.memory.Plan.{Plan}
+use Rattle.adr_model.specs.Replica.{Replica, Pending, Up, on_new_disk}
 use Rattle.adr_model.specs.Serve.{Request, ask}
 use Rattle.adr_model.specs.World.{World, Sent, nothing, where_up}
 use Rattle.adr_law_journal.specs.Areas.{found, Started}

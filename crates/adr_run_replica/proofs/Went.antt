@@ -3,7 +3,8 @@ use Rattle.std.proofs.Common.{◌≡◌, refl, List, [], ◌∷◌, Bool, true, 
 use Rattle.adr_io.specs.declared.Fault.TheVariants.{Failed as failed_call}
 use Rattle.adr_call.specs.declared.outcome.Outcome.{Outcome}
 use Rattle.adr_model.specs.Update.{Identifier}
-use Rattle.adr_model.specs.Replica.{Replica, Pending, Book, Move, Begin, Settle, Forget, moved, Went, Passed, Met, Stops, Fails, Up, Failed, standing_after, outcome_after, moves_of_commit, moves_of_start}
+use Rattle.adr_disk.specs.declared.memory.Mishap.TheVariants.{Fails, Stops}
+use Rattle.adr_model.specs.Replica.{Replica, Pending, Book, Move, Begin, Settle, Forget, moved, Went, Passed, Met, Up, Failed, standing_after, outcome_after, moves_of_commit, moves_of_start}
 use Rattle.adr_law_journal.specs.Replicas.{standing_of}
 use Rattle.adr_run_replica.specs.Settled.{of_fault}
 

@@ -4,7 +4,8 @@ use Rattle.adr_wire.specs.Ranges.{IsId}
 use Rattle.adr_model.specs.Update.{Identifier}
 use Rattle.adr_model.specs.Store.{State, empty_state}
 use Rattle.adr_model.specs.Lengths.{new_log}
-use Rattle.adr_model.specs.Replica.{Device, Pending, Plan, Replica, Standing, Up, Down, Failed}
+use Rattle.adr_disk.specs.declared.memory.Plan.{Plan}
+use Rattle.adr_model.specs.Replica.{Device, Pending, Replica, Standing, Up, Down, Failed}
 use Rattle.adr_law_journal.specs.Areas.{Found, found, Started}
 use Rattle.adr_law_journal.specs.Replicas.{Has}
 use Rattle.adr_controller.specs.Running.{Running}

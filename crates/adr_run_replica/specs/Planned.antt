@@ -2,7 +2,8 @@
 use Rattle.std.specs.Prelude.{◌≡◌, Bool, false, Option, Some, None, Ok}
 use Rattle.adr_model.specs.Change.{Change}
 use Rattle.adr_model.specs.Store.{State}
-use Rattle.adr_model.specs.Replica.{Book, Pending, Plan, Replica}
+use Rattle.adr_disk.specs.declared.memory.Plan.{Plan}
+use Rattle.adr_model.specs.Replica.{Book, Pending, Replica}
 use Rattle.adr_law_journal.specs.Areas.{Found, Started}
 use Rattle.adr_law_journal.specs.Replicas.{Has, committed, read_found, safe_found, started}
 use Rattle.adr_run_keeper.specs.Planned.{StartsAs}

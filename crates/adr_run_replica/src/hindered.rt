@@ -5,7 +5,7 @@ ghost use Rattle.adr_journal.specs.Ended.{ended_start};
 ghost use Rattle.adr_controller.specs.Ended.{call_hindrance};
 ghost use Rattle.adr_run_replica.specs.Settled.{come, hindered_so, hindrance_of_start, left_by};
 
-use crate::past::{Ahead, Kept, Past};
+use crate::past::{Ahead, KeptCall, Past};
 use adr_call::{Outcome, Table};
 use adr_controller::{CallRefusal, Controller, Hindrance, StartRefusal};
 use adr_journal::Journal;
@@ -45,7 +45,7 @@ pub(crate) fn hindrance_of_start(started: &Result<(), StartRefusal>) -> Option<H
 /// whose disk stopped within the call is down. Tells whether its disk is stopped.
 pub(crate) fn settle(
     controller: &mut Controller<Journal<MemDisk, Records>>,
-    kept: &mut Kept,
+    kept: &mut KeptCall,
     past: &mut Past,
     ahead: Ahead,
     how: Option<Hindrance>,

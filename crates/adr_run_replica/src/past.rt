@@ -67,11 +67,11 @@ impl Past {
 /// The call of a controller that is on its disk and isn't safe, if there is one. It keeps nothing when it runs: contracts
 /// see it.
 #[derive(Drop)]
-pub(crate) struct Kept {
+pub(crate) struct KeptCall {
     told: Told,
 }
 
-impl Model for Kept {
+impl Model for KeptCall {
     ghost use Rattle.std.specs.Prelude.{Option};
     ghost use Rattle.adr_model.specs.Replica.{Pending};
 
@@ -80,12 +80,12 @@ impl Model for Kept {
     ghost view = { λ k. k.told.ahead.kept };
 }
 
-impl Kept {
+impl KeptCall {
     /// No call.
-    pub(crate) fn none() -> Kept
+    pub(crate) fn none() -> KeptCall
         ensures { result ≡ None }
     {
-        Kept { told: Told::new() }
+        KeptCall { told: Told::new() }
     }
 }
 
@@ -93,7 +93,7 @@ impl Kept {
 #[derive(Drop)]
 pub(crate) struct Ahead {
     pub(crate) past: Past,
-    pub(crate) kept: Kept,
+    pub(crate) kept: KeptCall,
 }
 
 impl Ahead {
@@ -105,7 +105,7 @@ impl Ahead {
             past: Past {
                 told: past.told.with(deed),
             },
-            kept: Kept {
+            kept: KeptCall {
                 told: past.told.with(deed),
             },
         }

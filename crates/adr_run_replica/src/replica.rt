@@ -6,7 +6,8 @@ ghost use Rattle.adr_model.specs.Spelled.{IsSpelledReply};
 ghost use Rattle.adr_law_recorded.specs.Typed.{IsTypedWrite};
 ghost use Rattle.adr_law_recorded.specs.Ranged.{IsRangedReply, IsRangedRequest};
 ghost use Rattle.adr_model.specs.Lengths.{area_fits, new_log};
-ghost use Rattle.adr_model.specs.Replica.{Down as stands_down, Failed as stands_failed, Fails, Stops, Up as stands_up, on_new_disk};
+ghost use Rattle.adr_disk.specs.declared.memory.Mishap.TheVariants.{Fails, Stops};
+ghost use Rattle.adr_model.specs.Replica.{Down as stands_down, Failed as stands_failed, Up as stands_up, on_new_disk};
 ghost use Rattle.adr_model.specs.Serve.{ask, serve};
 ghost use Rattle.adr_model.specs.Store.{empty_state};
 ghost use Rattle.adr_model.specs.Take.{take};
@@ -18,7 +19,7 @@ ghost use Rattle.adr_run_replica.specs.Led.{IsDone, IsUndone, Leads, LeadsTo, St
 
 use crate::hindered::{hindered, hindrance_in, hindrance_of_start, settle};
 use crate::keepers::goes_as_planned;
-use crate::past::{Ahead, Kept, Past};
+use crate::past::{Ahead, KeptCall, Past};
 use crate::told::Deed;
 use adr_call::{Outcome, Write};
 use adr_controller::{CallRefusal, Controller, Keeper, KeeperRefusal, StartRefusal};
@@ -46,7 +47,7 @@ pub struct Replica {
     pub(crate) name: Text,
     pub(crate) dsa: Guid,
     pub(crate) controller: Controller<Journal<MemDisk, Records>>,
-    pub(crate) kept: Kept,
+    pub(crate) kept: KeptCall,
 }
 
 impl Drop for Replica {
@@ -115,7 +116,7 @@ impl Replica {
             name,
             dsa,
             controller,
-            kept: Kept::none(),
+            kept: KeptCall::none(),
         })
     }
 
@@ -286,14 +287,14 @@ impl Replica {
 
     /// Lets so many writes and syncs of its disk pass, and crashes within the next.
     pub fn stop_after(&mut self, calls: u32, how: Crash)
-        ensures { self.new ≡ record self.old { device = record self.old.device { plan = Some (record { calls = calls; fault = Stops how }) } } }
+        ensures { self.new ≡ record self.old { device = record self.old.device { plan = Some (record { calls = calls; mishap = Stops how }) } } }
     {
         rehearsal::stop_after(&mut self.controller, calls, how);
     }
 
     /// Lets so many writes and syncs of its disk pass, and fails the next, which changes nothing.
     pub fn fail_after(&mut self, calls: u32)
-        ensures { self.new ≡ record self.old { device = record self.old.device { plan = Some (record { calls = calls; fault = Fails }) } } }
+        ensures { self.new ≡ record self.old { device = record self.old.device { plan = Some (record { calls = calls; mishap = Fails }) } } }
     {
         rehearsal::fail_after(&mut self.controller, calls);
     }
@@ -305,7 +306,7 @@ impl Replica {
         ensures given { past.new.given ≡ past.old.given }
     {
         let ahead = Ahead::of(past, &Deed::Stops(&*self));
-        rehearsal::crash(&mut self.controller, Crash::Kept);
+        rehearsal::crash(&mut self.controller, Crash::KeptCall);
         *past = ahead.past;
         self.kept = ahead.kept;
     }

@@ -4,7 +4,7 @@ ghost use Rattle.std.specs.Prelude.{◌≡◌, IfOk};
 ghost use Rattle.adr_model.specs.Replica.{on_disk};
 
 use crate::keepers::goes_as_planned;
-use crate::past::Kept;
+use crate::past::KeptCall;
 use crate::replica::Replica;
 use adr_controller::Controller;
 use adr_guid::Guid;
@@ -62,7 +62,7 @@ impl Replica {
             name,
             dsa: snapshot.dsa,
             controller,
-            kept: Kept::none(),
+            kept: KeptCall::none(),
         })
     }
 }

@@ -25,7 +25,8 @@ use Rattle.adr_model.specs.Change.{Change}
 use Rattle.adr_model.specs.Collect.{quarantine}
 use Rattle.adr_model.specs.Lengths.{new_log, area_fits, change_fits}
 use Rattle.adr_model.specs.Refused.{adopt_refused, collect_refused, full, serve_refused, take_refused, upgrade_refused, write_refused}
-use Rattle.adr_model.specs.Replica.{Fails, Met, Passed, Pending, Replica, Stops, ToCollect, ToQuarantine, ToTake, ToUpgrade, ToWrite, Went, Standing, Up, Down, Failed, commit_goes, outcome_after, start_goes}
+use Rattle.adr_disk.specs.declared.memory.Mishap.TheVariants.{Fails, Stops}
+use Rattle.adr_model.specs.Replica.{Met, Passed, Pending, Replica, ToCollect, ToQuarantine, ToTake, ToUpgrade, ToWrite, Went, Standing, Up, Down, Failed, commit_goes, outcome_after, start_goes}
 use Rattle.adr_model.specs.Serve.{Reply, Request, serve}
 use Rattle.adr_model.specs.Store.{State, Store}
 use Rattle.adr_model.specs.Take.{take}

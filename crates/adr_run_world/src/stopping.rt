@@ -2,7 +2,7 @@
 
 ghost use Rattle.std.specs.Prelude.{◌≡◌, IfOk, OnErr};
 ghost use Rattle.adr_event.specs.declared.event.Event.TheVariants.{Start};
-ghost use Rattle.adr_model.specs.Replica.{Stops, Fails};
+ghost use Rattle.adr_disk.specs.declared.memory.Mishap.TheVariants.{Fails, Stops};
 ghost use Rattle.adr_model.specs.World.{of_made, replica_at, starts, stays, stops, with_plan};
 ghost use Rattle.adr_run_world.specs.Run.{IsTidy, world_of};
 ghost use Rattle.adr_run_world.specs.Short.{IsCutShort};
@@ -31,7 +31,7 @@ impl Run {
     pub fn stop_after(&mut self, name: &Text, calls: u32, how: Crash) -> Outcome
         requires { IsTidy self.old }
         ensures done { let w = world_of self.old in
-            of_made (stays w) (replica_at w name.now) (λ r. with_plan w r (record { calls = calls; fault = Stops how })) ≡ (world_of self.new, result) }
+            of_made (stays w) (replica_at w name.now) (λ r. with_plan w r (record { calls = calls; mishap = Stops how })) ≡ (world_of self.new, result) }
         ensures tidy { IsTidy self.new }
     {
         let Some(place) = self.place_of(name) else {
@@ -45,7 +45,7 @@ impl Run {
     pub fn fail_after(&mut self, name: &Text, calls: u32) -> Outcome
         requires { IsTidy self.old }
         ensures done { let w = world_of self.old in
-            of_made (stays w) (replica_at w name.now) (λ r. with_plan w r (record { calls = calls; fault = Fails })) ≡ (world_of self.new, result) }
+            of_made (stays w) (replica_at w name.now) (λ r. with_plan w r (record { calls = calls; mishap = Fails })) ≡ (world_of self.new, result) }
         ensures tidy { IsTidy self.new }
     {
         let Some(place) = self.place_of(name) else {

@@ -6,7 +6,7 @@ use Rattle.adr_stamp.specs.Order.{identifier_order}
 use Rattle.adr_vector.specs.Vector.{Cursors, at}
 use Rattle.adr_vector.specs.Known.{has_cursors_of}
 use Rattle.adr_model.specs.Update.{Identifier}
-use Rattle.adr_model.specs.Store.{Kept}
+use Rattle.adr_model.specs.Store.{PartnerMark}
 use Rattle.adr_model.specs.Change.{Change}
 
 -- whether a vector has each cursor that a change joins, and the own one, unless no USN was used
@@ -14,5 +14,5 @@ abbrev pub has_cursors_for : Cursors → Identifier → Change → Bool
 has_cursors_for vector inv change = has_cursors_of vector change.joined && (change.usn == 0 || nat_lt 0 (at vector inv))
 
 -- the mark, if there is one, is of a partner of whom something is kept
-abbrev pub IsOfKnown : List (Identifier × Kept) → Option (Identifier × Kept) → Type 0
+abbrev pub IsOfKnown : List (Identifier × PartnerMark) → Option (Identifier × PartnerMark) → Type 0
 IsOfKnown marks mark = IfSome mark (λ m. IsSome (lookup (is_at (identifier_order m.0)) marks))

@@ -10,7 +10,7 @@ mod marks;
 mod rows;
 mod state;
 
-pub use adr_change::{Change, Kept, Mode, covers_birth, covers_update};
+pub use adr_change::{Change, Mode, PartnerMark, covers_birth, covers_update};
 pub use adr_checks::Schema;
 pub use adr_failure::{Failure, NoMemory};
 pub use adr_schema::Content;

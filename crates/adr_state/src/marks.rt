@@ -5,13 +5,13 @@ ghost use Rattle.std.specs.BTreeMap.{IsOrdered, insert_entry, is_at};
 ghost use Rattle.std.specs.Map.{lookup};
 ghost use Rattle.adr_stamp.specs.Order.{identifier_order};
 ghost use Rattle.adr_model.specs.Update.{Identifier};
-ghost use Rattle.adr_model.specs.Store.{Kept as Defined, kept_of, mark_of};
+ghost use Rattle.adr_model.specs.Store.{PartnerMark as Defined, kept_of, mark_of};
 ghost use Rattle.adr_model.specs.Change.{with_mark};
 ghost use Rattle.adr_state.specs.Known.{IsOfKnown};
 ghost use Rattle.adr_state.specs.Marks.{of_marks};
 
 use crate::NoMemory;
-use adr_change::{Kept, no_mark};
+use adr_change::{PartnerMark, no_mark};
 use adr_guid::Guid;
 use adr_vector::Mark;
 use std::alloc::Global;
@@ -21,13 +21,13 @@ use std::marker::Model;
 /// What is kept of each partner, by its controller's identifier.
 #[derive(Drop)]
 pub struct Marks {
-    map: BTreeMap<Guid, Kept>,
+    map: BTreeMap<Guid, PartnerMark>,
 }
 
 impl Model for Marks {
     ghost use Rattle.std.specs.Prelude.{List};
     ghost use Rattle.adr_model.specs.Update.{Identifier};
-    ghost use Rattle.adr_model.specs.Store.{Kept as Defined};
+    ghost use Rattle.adr_model.specs.Store.{PartnerMark as Defined};
 
     ghost Value = { List (Identifier × Defined) };
 
@@ -50,7 +50,7 @@ impl Marks {
     }
 
     /// What is kept of each partner; a later one takes the place of an earlier one of the same partner.
-    pub fn of(alloc: Global, list: &[(Guid, Kept)]) -> Result<Marks, NoMemory>
+    pub fn of(alloc: Global, list: &[(Guid, PartnerMark)]) -> Result<Marks, NoMemory>
         ensures { IfOk result (λ marks.
             marks ≡ fold (λ ms (m : Identifier × Defined). with_mark (Some m) ms) [] list.now) }
     {
@@ -62,12 +62,12 @@ impl Marks {
     }
 
     /// What is kept of a partner; of one of whom nothing was read, the mark at nothing of no incarnation.
-    pub fn kept(&self, partner: Guid) -> Kept
+    pub fn kept(&self, partner: Guid) -> PartnerMark
         ensures { result ≡ kept_of (of_marks self.now) partner }
     {
         match self.map.get(&partner) {
             Some(kept) => *kept,
-            None => Kept::new(Guid::from_u128(0), no_mark()),
+            None => PartnerMark::new(Guid::from_u128(0), no_mark()),
         }
     }
 
@@ -89,7 +89,7 @@ impl Marks {
     pub(crate) fn with_new(
         &self,
         alloc: Global,
-        mark: Option<(Guid, Kept)>,
+        mark: Option<(Guid, PartnerMark)>,
     ) -> Result<Option<Marks>, NoMemory>
         ensures new { IfOk result (λ marks. IfSome marks (λ with. with ≡ with_mark mark self.now)) }
         ensures known { IfOk result (λ marks. IfNone marks (IsOfKnown self.now mark)) }
@@ -106,7 +106,7 @@ impl Marks {
     }
 
     /// Other marks take the place of these, if there are any; else what is given of a known partner is kept.
-    pub(crate) fn renew(&mut self, marks: Option<Marks>, mark: Option<(Guid, Kept)>)
+    pub(crate) fn renew(&mut self, marks: Option<Marks>, mark: Option<(Guid, PartnerMark)>)
         requires { IfNone marks (IsOfKnown self.old mark) }
         ensures { self.new ≡ unwrap_or marks (with_mark mark self.old) }
     {
@@ -117,7 +117,7 @@ impl Marks {
     }
 
     /// Keeps what is given of a known partner, in place of what was kept of it.
-    fn keep_known(&mut self, mark: Option<(Guid, Kept)>)
+    fn keep_known(&mut self, mark: Option<(Guid, PartnerMark)>)
         requires { IsOfKnown self.old mark }
         ensures { self.new ≡ with_mark mark self.old }
     {
@@ -146,7 +146,7 @@ impl Marks {
     }
 
     /// What is kept of each partner, by its controller's identifier, rising.
-    pub fn to_vec(&self, alloc: Global) -> Result<Vec<(Guid, Kept)>, NoMemory>
+    pub fn to_vec(&self, alloc: Global) -> Result<Vec<(Guid, PartnerMark)>, NoMemory>
         ensures { IfOk result (λ list. list.items ≡ self.now) }
     {
         let mut list = Vec::new(alloc);
@@ -169,7 +169,11 @@ impl Marks {
 }
 
 /// Puts what is kept of a partner into a table, over what is there.
-fn put(map: &mut BTreeMap<Guid, Kept>, partner: Guid, kept: Kept) -> Result<(), NoMemory>
+fn put(
+    map: &mut BTreeMap<Guid, PartnerMark>,
+    partner: Guid,
+    kept: PartnerMark,
+) -> Result<(), NoMemory>
     ensures entries { OnOk result (map.new.entries ≡ insert_entry identifier_order map.old.entries partner kept) }
     ensures ordered { IsOrdered identifier_order map.new }
 {
@@ -178,7 +182,7 @@ fn put(map: &mut BTreeMap<Guid, Kept>, partner: Guid, kept: Kept) -> Result<(), 
 }
 
 /// Puts what is kept of a partner in the place of what a table has of it.
-fn overwrite(map: &mut BTreeMap<Guid, Kept>, partner: Guid, kept: Kept)
+fn overwrite(map: &mut BTreeMap<Guid, PartnerMark>, partner: Guid, kept: PartnerMark)
     requires { IsSome (lookup (is_at (identifier_order partner)) map.old.entries) }
     ensures entries { map.new.entries ≡ insert_entry identifier_order map.old.entries partner kept }
     ensures ordered { IsOrdered identifier_order map.new }

@@ -12,7 +12,10 @@ use Rattle.adr_call.specs.declared.directory.Entry.{Entry}
 use Rattle.adr_model.specs.Change.{Change}
 use Rattle.adr_model.specs.Lengths.{Log, first_area, log_version, is_due, checkpointed}
 use Rattle.adr_model.specs.Collect.{quarantine}
-use Rattle.adr_model.specs.Replica.{ToQuarantine, Pending, Fault, Stops, Fails, Plan, Device, Replica, on_disk, rests_at, Went, Passed, Met, commit_goes, device_after_commit, device_after_start}
+use Rattle.adr_disk.specs.declared.memory.Mishap.{Mishap}
+use Rattle.adr_disk.specs.declared.memory.Mishap.TheVariants.{Fails, Stops}
+use Rattle.adr_disk.specs.declared.memory.Plan.{Plan}
+use Rattle.adr_model.specs.Replica.{ToQuarantine, Pending, Device, Replica, on_disk, rests_at, Went, Passed, Met, commit_goes, device_after_commit, device_after_start}
 use Rattle.adr_model.specs.World.{World, empty_world}
 use Rattle.adr_test_definitions.specs.Acting.{first}
 use Rattle.adr_test_definitions.specs.Runs.{object}
@@ -52,8 +55,8 @@ due slot plan = stands (leaves (old_log slot) (old_log slot) plan)
 abbrev pub shuts_off : Pending
 shuts_off = record { call = ToQuarantine; change = quarantine first }
 
-abbrev pub meets : ℕ → Fault → Option Plan
-meets calls fault = Some (record { calls = calls; fault = fault })
+abbrev pub meets : ℕ → Mishap → Option Plan
+meets calls mishap = Some (record { calls = calls; mishap = mishap })
 
 -- no plan, and one behind all nine calls
 abbrev pub commits_due : Bool → List Device
@@ -63,11 +66,11 @@ abbrev pub commits_due_told : Bool → List Device
 commits_due_told slot = map (leaves (with_record slot) (with_record slot)) (None ∷ meets 0 Fails ∷ [])
 
 -- a call fails, or the disk stops there, and all that isn't synced is kept, lost or torn
-abbrev pub mishaps : List Fault
+abbrev pub mishaps : List Mishap
 mishaps = Fails ∷ Stops Kept ∷ Stops Lost ∷ Stops Torn ∷ []
 
 abbrev pub nine_calls : Bool → List (List Device)
-nine_calls slot = map (λ calls. map (λ fault. device_after_commit (due slot (meets calls fault)) shuts_off) mishaps) (range_with_len 0 9)
+nine_calls slot = map (λ calls. map (λ mishap. device_after_commit (due slot (meets calls mishap)) shuts_off) mishaps) (range_with_len 0 9)
 
 -- one for each mishap
 abbrev pub mishaps_told : Device → Log → Log → Log → List Device
@@ -117,7 +120,7 @@ states_told slot =
 
 -- a start behind the call that failed, whose sync meets each mishap
 abbrev pub start_behind : ℕ → Bool → List Device
-start_behind calls slot = map (λ fault. device_after_start (stands (record left { plan = meets 0 fault }))) mishaps
+start_behind calls slot = map (λ mishap. device_after_start (stands (record left { plan = meets 0 mishap }))) mishaps
   where
     left : Device
     left = device_after_commit (due slot (meets calls Fails)) shuts_off

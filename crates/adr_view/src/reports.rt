@@ -1,7 +1,7 @@
 //! What a controller tells of what it has.
 
 ghost use Rattle.std.specs.Prelude.{◌≡◌, map, IfOk, IsTrue};
-ghost use Rattle.adr_model.specs.Store.{Kept as IsKept, updates_of};
+ghost use Rattle.adr_model.specs.Store.{PartnerMark as IsKept, updates_of};
 ghost use Rattle.adr_model.specs.Update.{Identifier};
 ghost use Rattle.adr_view.specs.BackLinks.{have_back_links};
 ghost use Rattle.adr_view.specs.Named.{AreNamed};

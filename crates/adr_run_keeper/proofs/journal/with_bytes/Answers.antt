@@ -2,7 +2,6 @@ use Rattle.std.proofs.Common.{◌∙◌, ap}
 use Rattle.adr_disk.specs.declared.memory.Crash.TheVariants.{Torn}
 use Rattle.adr_disk.specs.Memory.{DiskState, Surface, read_of, left_by}
 use Rattle.adr_law_journal.specs.Areas.{start_of}
-use Rattle.adr_law_journal.specs.Replicas.{plan_of}
 use Rattle.adr_run_keeper.proofs.journal.with_bytes.Goals as goal
 
 pub returns-clause-read : goal.returns-clause-read
@@ -24,4 +23,4 @@ pub returns-clause-running : goal.returns-clause-running
 returns-clause-running g c = ap (λ (d : DiskState). d.stopped) c.new.ensures.disk ∙ c.of.ensures.running
 
 pub returns-clause-plan : goal.returns-clause-plan
-returns-clause-plan g c = ap (λ (d : DiskState). plan_of d.plan) c.new.ensures.disk ∙ ap plan_of c.of.ensures.plan
+returns-clause-plan g c = ap (λ (d : DiskState). d.plan) c.new.ensures.disk ∙ c.of.ensures.plan

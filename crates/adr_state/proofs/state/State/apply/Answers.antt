@@ -3,7 +3,7 @@ use Rattle.std.specs.Prelude.{IfSome, unwrap_or}
 use Rattle.adr_vector.specs.Vector.{Cursors, cursor_limit, joined, raised}
 use Rattle.adr_model.specs.Update.{Identifier}
 use Rattle.adr_model.specs.Change.{Change, after, held_of, rows_after, with_mark}
-use Rattle.adr_model.specs.Store.{Held, Kept, Mode, State}
+use Rattle.adr_model.specs.Store.{Held, PartnerMark, Mode, State}
 use Rattle.adr_state.specs.contracts.state.State.{the_view}
 use Rattle.adr_state.proofs.state.State.apply.Goals as goal
 
@@ -12,7 +12,7 @@ either : {X : Type 0} (o : Option X) (x : X) → IfSome o (λ v. v ≡ x) → un
 either None x is = refl
 either (Some v) x is = is
 
-state_is : (s : State) (change : Change) (mode : Mode) (schema usn : ℕ) (rows : List Held) (vector times purged : Cursors) (marks : List (Identifier × Kept)) → mode ≡ change.mode → schema ≡ change.schema → usn ≡ change.usn
+state_is : (s : State) (change : Change) (mode : Mode) (schema usn : ℕ) (rows : List Held) (vector times purged : Cursors) (marks : List (Identifier × PartnerMark)) → mode ≡ change.mode → schema ≡ change.schema → usn ≡ change.usn
     → rows ≡ (after s change).store.rows → vector ≡ (after s change).store.vector → times ≡ (after s change).store.times → purged ≡ (after s change).store.purged → marks ≡ (after s change).store.marks
     → record { dsa = s.dsa; inv = s.inv; mode = mode; store = record { schema = schema; usn = usn; rows = rows; vector = vector; times = times; purged = purged; marks = marks } } ≡ after s change
 state_is s change mode schema usn rows vector times purged marks m n u r v t p k = rw m (rw n (rw u (rw r (rw v (rw t (rw p (rw k refl)))))))

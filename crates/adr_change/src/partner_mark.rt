@@ -10,13 +10,13 @@ use std::marker::Model;
 
 /// How far an incarnation of a partner's database was read (MS-DRSR, USN_VECTOR).
 #[derive(Clone, Copy)]
-pub struct Kept {
+pub struct PartnerMark {
     inv: Guid,
     mark: Mark,
 }
 
-impl Model for Kept {
-    ghost use Rattle.adr_model.specs.Store.{Kept as Defined};
+impl Model for PartnerMark {
+    ghost use Rattle.adr_model.specs.Store.{PartnerMark as Defined};
 
     ghost Value = { Defined };
 
@@ -25,11 +25,11 @@ impl Model for Kept {
     ghost inverse = { λ k. record { inv = k.inv; mark = k.mark } };
 }
 
-impl Kept {
-    pub fn new(inv: Guid, mark: Mark) -> Kept
+impl PartnerMark {
+    pub fn new(inv: Guid, mark: Mark) -> PartnerMark
         ensures { result ≡ record { inv = inv; mark = mark } }
     {
-        Kept { inv, mark }
+        PartnerMark { inv, mark }
     }
 
     /// The invocation identifier that was read.
