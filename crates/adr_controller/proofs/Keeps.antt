@@ -18,7 +18,7 @@ use Rattle.adr_controller.specs.declared.refusal.Hindrance.TheVariants.{Down, Fa
 use Rattle.adr_controller.specs.Running.{Running, IsUp, IsInOrder}
 use Rattle.adr_controller.specs.Able.{CanCommit}
 use Rattle.adr_controller.specs.Ended.{hindrance_of, kept_as}
-use Rattle.adr_controller.specs.Did.{Commits, IsBoundedBy, Keeps, KeepsAll, MadeReady, Ran, up_behind}
+use Rattle.adr_controller.specs.Did.{Commits, IsBoundedBy, KeepsAll, KeepsChange, MadeReady, Ran, up_behind}
 use Rattle.adr_controller.proofs.Bounding.{new_bound, same_bound}
 
 -- how a call ended that was hindered
@@ -92,7 +92,7 @@ module _ {K : Type 0} (k : Ghosts K)
 
   -- a call of the disk failed
   faulted : (new : K) (t : State) → Ran k old s c (Some DiskFault) new → (k.faults old < k.faults new) × (k.is_failed new ≡ true) → GoesOnTelling new → Fits → Moments old new → Left new → Bounded new
-      → Keeps k s c (up_behind None old s) (up_behind (Some DiskFault) new t) (Some DiskFault)
+      → KeepsChange k s c (up_behind None old s) (up_behind (Some DiskFault) new t) (Some DiskFault)
   faulted new t ran fault told fits moments left bounded = record {
     commits = record {
       done = λ h. absurd (cc h);
@@ -139,7 +139,7 @@ module _ {K : Type 0} (k : Ghosts K)
     bound_kept log file image longest was b = same_bound k old new within file image longest (image_of log) record_length b
 
     -- memory was wanting, and nothing of what a start finds has changed
-    pub wanted : k.is_failed new ≡ false → Ran k old s c (Some NoMemory) new → Keeps k s c (up_behind None old s) (up_behind (Some NoMemory) new s) (Some NoMemory)
+    pub wanted : k.is_failed new ≡ false → Ran k old s c (Some NoMemory) new → KeepsChange k s c (up_behind None old s) (up_behind (Some NoMemory) new s) (Some NoMemory)
     wanted running ran = record {
       commits = record {
         done = λ h. absurd (cc h);
@@ -164,7 +164,7 @@ module _ {K : Type 0} (k : Ghosts K)
       not_failed = λ h. cc h;
     }
 
-    full_so : new ≡ old → ((log : Log) → k.is_at old (found s log) → change_fits log s.store c ≡ false) → Keeps k s c (up_behind None old s) (up_behind (Some Full) new s) (Some Full)
+    full_so : new ≡ old → ((log : Log) → k.is_at old (found s log) → change_fits log s.store c ≡ false) → KeepsChange k s c (up_behind None old s) (up_behind (Some Full) new s) (Some Full)
     full_so same beyond = record {
       commits = record {
         done = λ h. absurd (cc h);
@@ -195,7 +195,7 @@ module _ {K : Type 0} (k : Ghosts K)
         → (IsErrOf {T = Unit {0}} (Err e) keeps.DiskFault → Fits)
         → (IsErrOf {T = Unit {0}} (Err e) keeps.Full → new ≡ old) → (IsErrOf {T = Unit {0}} (Err e) keeps.DiskFault → (k.faults old < k.faults new) × (k.is_failed new ≡ true))
         → (IsErrOf {T = Unit {0}} (Err e) keeps.NoMemory → k.is_failed new ≡ k.is_failed old) → k.prepares old (Some e) new
-        → Keeps k s c (up_behind None old s) (up_behind (Some (kept_as e)) new s) (Some (kept_as e))
+        → KeepsChange k s c (up_behind None old s) (up_behind (Some (kept_as e)) new s) (Some (kept_as e))
     refused keeps.DiskFault failed full fits same fault no_memory prepares = faulted new s (inl prepares) (fault refl) tells_on (fits refl) moments_kept left_kept bound_kept
     refused keeps.Failed failed full fits same fault no_memory prepares = absurd (cc (failed.0 refl, up.running))
     refused keeps.Full failed full fits same fault no_memory prepares = full_so (same refl) (λ log was. (full refl log was).1)
@@ -231,8 +231,8 @@ module _ {K : Type 0} (k : Ghosts K)
 
     pub done : (t : State) → t ≡ after s c → ((f : Found State) → k.is_at ready f → k.is_prepared ready f.state c → k.can_follow f.state c → k.is_at new (found_after f c)) → k.is_failed new ≡ false
         → ((f : Found State) → k.is_at ready f → k.is_prepared ready f.state c → k.can_follow f.state c → k.commits ready c None new)
-        → Keeps k s c (up_behind None old s) (up_behind None new t) None
-    done t is at running commits = subst (λ (x : State). Keeps k s c (up_behind None old s) (up_behind None new x) None) (sym is) (record {
+        → KeepsChange k s c (up_behind None old s) (up_behind None new t) None
+    done t is at running commits = subst (λ (x : State). KeepsChange k s c (up_behind None old s) (up_behind None new x) None) (sym is) (record {
       commits = record {
         done = λ h. refl;
         stands = λ h log was. at (found s log) (made.at (found s log) was) made.is_prepared able.follows;
@@ -262,7 +262,7 @@ module _ {K : Type 0} (k : Ghosts K)
 
     pub failed : (t : State) (e : KeeperRefusal) → IsErrOf {T = Unit {0}} (Err e) keeps.DiskFault × (k.faults ready < k.faults new) × (k.is_failed new ≡ true)
         → ((f : Found State) → k.is_at ready f → k.is_prepared ready f.state c → k.can_follow f.state c → k.commits ready c (Some e) new)
-        → Keeps k s c (up_behind None old s) (up_behind (Some (kept_as e)) new t) (Some (kept_as e))
+        → KeepsChange k s c (up_behind None old s) (up_behind (Some (kept_as e)) new t) (Some (kept_as e))
     failed t keeps.DiskFault fault commits = faulted new t (inr (ready, made, commits (found s up.log) here made.is_prepared able.follows)) (omega (arith, later, fault.1), fault.2) told_so fits moments_so left_so bound_so
     failed t keeps.Failed fault commits = absurd (cc fault.0)
     failed t keeps.Full fault commits = absurd (cc fault.0)

@@ -89,7 +89,7 @@ pub record Commits {K : Type 0} (k : Ghosts K) (s : State) (c : Change) (old new
   pub ran : Ran k old.keeper s c how new.keeper
 
 -- A controller that is up keeps a change, or is hindered: it commits it, and is in order.
-pub record Keeps {K : Type 0} (k : Ghosts K) (s : State) (c : Change) (old new : Running K) (how : Option Hindrance)
+pub record KeepsChange {K : Type 0} (k : Ghosts K) (s : State) (c : Change) (old new : Running K) (how : Option Hindrance)
     : Type 0 where
   pub commits : Commits k s c old new how
   pub in_order : IsInOrder k new

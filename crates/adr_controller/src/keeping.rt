@@ -6,7 +6,7 @@ ghost use Rattle.adr_state.specs.Refusal.{IsOverfull};
 ghost use Rattle.adr_controller.specs.Running.{IsUp};
 ghost use Rattle.adr_controller.specs.Able.{CanCommit};
 ghost use Rattle.adr_controller.specs.Ended.{hindrance_of};
-ghost use Rattle.adr_controller.specs.Did.{Keeps, up_behind};
+ghost use Rattle.adr_controller.specs.Did.{KeepsChange, up_behind};
 
 use crate::refusal::Hindrance;
 use adr_failure::{Failure, NoMemory};
@@ -37,7 +37,7 @@ pub(crate) fn keep<K: Keeper>(
     requires up { IsUp K.Keeper keeper.old state.old }
     requires able { CanCommit K.Keeper state.old change }
     ensures { let how = hindrance_of result in
-        Keeps K.Keeper state.old change (up_behind None keeper.old state.old) (up_behind how keeper.new state.new) how }
+        KeepsChange K.Keeper state.old change (up_behind None keeper.old state.old) (up_behind how keeper.new state.new) how }
 {
     keeper.prepare(state, &change)?;
     apply(state, change)?;

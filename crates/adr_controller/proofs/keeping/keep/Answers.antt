@@ -2,7 +2,7 @@ use Rattle.std.proofs.Common.{inr, sym, subst, None, Some}
 use Rattle.std.proofs.lemmas.Result.{err_from_is_err_and}
 use Rattle.adr_controller.specs.declared.refusal.Hindrance.TheVariants.{NoMemory}
 use Rattle.adr_controller.specs.Ended.{kept_as}
-use Rattle.adr_controller.specs.Did.{Keeps, MadeReady, up_behind}
+use Rattle.adr_controller.specs.Did.{KeepsChange, MadeReady, up_behind}
 use Rattle.adr_controller.proofs.Keeps.{done, failed, hindered_by, refused, wanted}
 use Rattle.adr_controller.proofs.keeping.keep.Goals as goal
 
@@ -14,7 +14,7 @@ returns-in_err-prepare g c =
     let e = c.in_err-prepare.field-0.0 in
     let ended = c.in_err-prepare.ensures in
     let p = err_from_is_err_and c.from_residual.result c.from_residual.ensures.1 in
-    subst (λ how. Keeps k s c.args.change (up_behind None c.args.keeper.now s) (up_behind how c.prepare.new.self s) how) (hindered_by (kept_as e) c.from_residual.result p.0 p.1 p.2)
+    subst (λ how. KeepsChange k s c.args.change (up_behind None c.args.keeper.now s) (up_behind how c.prepare.new.self s) how) (hindered_by (kept_as e) c.from_residual.result p.0 p.1 p.2)
     (refused k law.leaves law.only_now c.args.keeper.now s c.args.change c.requires.up c.requires.able c.prepare.new.self ended.keeps ended.later ended.at ended.within e ended.failed ended.full ended.fits_too ended.stays_full ended.fault ended.no_memory ended.prepares)
 
 pub returns-in_err-apply : goal.returns-in_err-apply
@@ -25,8 +25,8 @@ returns-in_err-apply g c =
     let ready = c.in_ok-prepare.ensures in
     let keeper = c.prepare.new.self in
     let p = err_from_is_err_and c.from_residual-in_err-apply.result c.from_residual-in_err-apply.ensures.1 in
-    subst (λ how. Keeps k s c.args.change (up_behind None c.args.keeper.now s) (up_behind how keeper c.apply.new.state) how) (hindered_by NoMemory c.from_residual-in_err-apply.result p.0 p.1 p.2)
-    (subst (λ t. Keeps k s c.args.change (up_behind None c.args.keeper.now s) (up_behind (Some NoMemory) keeper t) (Some NoMemory)) (sym c.in_err-apply.ensures.err)
+    subst (λ how. KeepsChange k s c.args.change (up_behind None c.args.keeper.now s) (up_behind how keeper c.apply.new.state) how) (hindered_by NoMemory c.from_residual-in_err-apply.result p.0 p.1 p.2)
+    (subst (λ t. KeepsChange k s c.args.change (up_behind None c.args.keeper.now s) (up_behind (Some NoMemory) keeper t) (Some NoMemory)) (sym c.in_err-apply.ensures.err)
     (wanted k law.leaves law.only_now c.args.keeper.now s c.args.change c.requires.up c.requires.able keeper ready.keeps ready.later ready.at ready.within ready.up (inr (inr ready.prepares))))
 
 pub returns-in_err-commit : goal.returns-in_err-commit
@@ -40,7 +40,7 @@ returns-in_err-commit g c =
     let ended = c.in_err-commit.ensures in
     let new = c.commit.new.self in
     let p = err_from_is_err_and c.from_residual-in_err-commit.result c.from_residual-in_err-commit.ensures.1 in
-    subst (λ how. Keeps k s c.args.change (up_behind None c.args.keeper.now s) (up_behind how new c.apply.new.state) how) (hindered_by (kept_as e) c.from_residual-in_err-commit.result p.0 p.1 p.2)
+    subst (λ how. KeepsChange k s c.args.change (up_behind None c.args.keeper.now s) (up_behind how new c.apply.new.state) how) (hindered_by (kept_as e) c.from_residual-in_err-commit.result p.0 p.1 p.2)
     (failed k law.leaves law.only_now c.args.keeper.now s c.args.change c.requires.up c.requires.able c.prepare.new.self new made ready.keeps ready.later ready.within ready.fits ended.told ended.later (λ f. ended.any_moment f c.args.change) (λ f. ended.left f c.args.change) (λ f. ended.within f c.args.change) c.apply.new.state e ended.fault (λ f. ended.commits f c.args.change))
 
 pub returns : goal.returns

@@ -1,7 +1,7 @@
 use Rattle.std.proofs.Common.{◌≡◌, ◌∙◌, refl, sym, ap, subst, true, Some, None, rules}
 use Rattle.adr_controller.specs.declared.refusal.Hindrance.TheVariants.{DiskFault}
 use Rattle.adr_controller.specs.Running.{IsInOrder}
-use Rattle.adr_controller.specs.Did.{Keeps, up_behind}
+use Rattle.adr_controller.specs.Did.{KeepsChange, up_behind}
 use Rattle.adr_controller.proofs.Keeps.{of_state, same_failed, same_hindered, same_running}
 use Rattle.adr_controller.proofs.controller.Controller.commit.Goals as goal
 
@@ -27,7 +27,7 @@ returns-in-Err-DiskFault-clause-commits g c = λ s is.
     let keeper = c.keep.new.keeper in
     let t = c.keep.new.state in
     let x = c.in-Some.state in
-    let kept = subst (λ h. Keeps k x c.args.change (up_behind None inside.keeper x) (up_behind (Some h) keeper t) (Some h)) c.in-Err-DiskFault.field-0-is c.in-Err-DiskFault.ensures in
+    let kept = subst (λ h. KeepsChange k x c.args.change (up_behind None inside.keeper x) (up_behind (Some h) keeper t) (Some h)) c.in-Err-DiskFault.field-0-is c.in-Err-DiskFault.ensures in
     of_state k x s c.args.change inside.keeper inside.state inside.down c.args.self.now (up_behind (Some DiskFault) keeper t) _ (Some DiskFault) c.self.view_is c.in-Some.is c.if-self.false is
     (same_failed k keeper c.forget.new.state t inside.down c.forget.ensures c.if-self.false) kept.commits
 
