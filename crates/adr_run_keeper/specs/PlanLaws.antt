@@ -308,25 +308,18 @@ module _ {K : Type 0} (head : Reading Ids) (area : Ids → Reading (Began State)
       → ((disk new).plan ≡ None) × (is_stopped new ≡ false) × (e ≡ Some DiskFault → ⊥)
   formats_so k new e up none ran = by e ran
     where
-      unplanned : (p : _) → p ≡ None → p ≡ None
-      unplanned None is = refl
-      unplanned (Some q) is = absurd (cc is)
-
       quiet : Quiet (disk k)
-      quiet = (unplanned (disk k).plan none, up)
-
-      done : (d : DiskState) → Quiet d → (d.plan ≡ None) × (d.stopped ≡ false)
-      done d q = (q.0, q.1)
+      quiet = (none, up)
 
       by : (e : Option KeeperRefusal) → FormatsDisk Does (disk k) e (disk new) → ((disk new).plan ≡ None) × (is_stopped new ≡ false) × (e ≡ Some DiskFault → ⊥)
       by None (mid, look, (written, (first, second, a, b, c))) =
-          let q = done (disk new) (still_through second (disk new) 0 _ (still_through first second 1 written (still_through mid first 0 _ (still (disk k) mid Looks quiet look) a) b) c) in
+          let q : Quiet (disk new) = still_through second (disk new) 0 _ (still_through first second 1 written (still_through mid first 0 _ (still (disk k) mid Looks quiet look) a) b) c in
           (q.0, q.1, λ is. cc is)
       by (Some DiskFault) (inl look) = absurd (no_fault (disk k) (disk new) Looks quiet look)
       by (Some DiskFault) (inr (mid, look, (written, f))) = absurd (format_fails written mid (disk new) (still (disk k) mid Looks quiet look) f)
-      by (Some NoMemory) (inl is) = let q = done (disk new) (subst Quiet (sym is) quiet) in (q.0, q.1, λ is. cc is)
-      by (Some NoMemory) (inr look) = let q = done (disk new) (look.plan ∙ quiet.0, look.stopped ∙ quiet.1) in (q.0, q.1, λ is. cc is)
-      by (Some Full) is = let q = done (disk new) (subst Quiet (sym is) quiet) in (q.0, q.1, λ is. cc is)
+      by (Some NoMemory) (inl is) = let q : Quiet (disk new) = subst Quiet (sym is) quiet in (q.0, q.1, λ is. cc is)
+      by (Some NoMemory) (inr look) = let q : Quiet (disk new) = (look.plan ∙ quiet.0, look.stopped ∙ quiet.1) in (q.0, q.1, λ is. cc is)
+      by (Some Full) is = let q : Quiet (disk new) = subst Quiet (sym is) quiet in (q.0, q.1, λ is. cc is)
       by (Some Failed) ran = absurd ran
 
 -- ---- what a crash leaves
