@@ -306,7 +306,7 @@ impl Replica {
         ensures given { past.new.given ≡ past.old.given }
     {
         let ahead = Ahead::of(past, &Deed::Stops(&*self));
-        rehearsal::crash(&mut self.controller, Crash::KeptCall);
+        rehearsal::crash(&mut self.controller, Crash::Kept);
         *past = ahead.past;
         self.kept = ahead.kept;
     }
