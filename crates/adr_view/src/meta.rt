@@ -1,6 +1,6 @@
 //! What the rows of a GUID tell of themselves.
 
-ghost use Rattle.std.specs.Prelude.{◌≡◌, ◌++◌, ◌∷◌, [], IfOk, OnOk, flat_map};
+ghost use Rattle.std.specs.Prelude.{◌≡◌, ◌++◌, IfOk, OnOk, flat_map};
 ghost use Rattle.std.specs.Option.{option_copied};
 ghost use Rattle.adr_model.specs.Meta.{deleted_name, life_beside, life_of, meta, object_line, text_said, text_written, told};
 ghost use Rattle.adr_model.specs.Place.{node_at};
@@ -94,25 +94,22 @@ fn life_of<'a>(
     Ok((Life::Dead, deleted_name(alloc, &text, object.guid)?))
 }
 
-/// Adds the line of an object.
-fn push_object<'a>(
+/// The line of an object.
+fn object_line<'a>(
     alloc: Global,
     rows: &'a Rows,
     names: &Names<'a>,
     object: &Oid,
-    lines: &mut Vec<MetaLine>,
-) -> Result<(), NoMemory>
+) -> Result<MetaLine, NoMemory>
     requires { AreYoungest (nodes_held (updates_of rows.now)) names.now.map }
-    ensures { OnOk result (lines.new.items
-        ≡ lines.old.items ++ object_line object.now (life_of rows.now object.now) ∷ []) }
+    ensures { IfOk result (λ line. line ≡ object_line object.now (life_of rows.now object.now)) }
 {
     let (life, name) = life_of(alloc, rows, names, object)?;
-    lines.push(MetaLine::Object {
+    Ok(MetaLine::Object {
         birth: object.birth,
         life,
         name,
-    })?;
-    Ok(())
+    })
 }
 
 /// Adds the line of a row, behind that of its object where it is the object's first.
@@ -130,7 +127,7 @@ fn push_row<'a>(
     match row.key() {
         Key::Row { object, attr } => {
             if attr == CLASS {
-                push_object(alloc, rows, names, &object, lines)?;
+                lines.push(object_line(alloc, rows, names, &object)?)?;
             }
             lines.push(MetaLine::Row {
                 attr,
