@@ -2,8 +2,7 @@
 
 ghost use Rattle.std.specs.Prelude.{◌≡◌, ◌++◌, IfOk, OnOk, flat_map};
 ghost use Rattle.std.specs.Option.{option_copied};
-ghost use Rattle.adr_model.specs.Meta.{deleted_name, life_beside, life_of, meta, object_line, text_said, text_written, told};
-ghost use Rattle.adr_model.specs.Place.{node_at};
+ghost use Rattle.adr_model.specs.Meta.{deleted_name, life_of, meta, object_line, text_said, text_written, told};
 ghost use Rattle.adr_model.specs.Store.{updates_of};
 ghost use Rattle.adr_model.specs.Write.{nodes_held};
 ghost use Rattle.adr_update.specs.Referents.{referents};
@@ -57,26 +56,6 @@ fn text_written(alloc: Global, rows: &Rows, object: &Oid) -> Result<Text, NoMemo
     }
 }
 
-/// How an object that isn't dead is held, and its name.
-fn life_beside<'a>(
-    alloc: Global,
-    rows: &'a Rows,
-    names: &Names<'a>,
-    object: &Oid,
-) -> Result<(Life, Text), NoMemory>
-    requires { AreYoungest (nodes_held (updates_of rows.now)) names.now.map }
-    ensures { IfOk result (λ life. let all = nodes_held (updates_of rows.now) in
-        life ≡ life_beside all (node_at all object.now.guid) object.now (text_written rows.now object.now)) }
-{
-    if let Some(node) = rows.node(object.guid) {
-        if is_same_object(&node.object(), object) {
-            let name = shown_name(alloc, names, rows.place(node), node)?;
-            return Ok((Life::Live, name));
-        }
-    }
-    Ok((Life::Hidden, text_written(alloc, rows, object)?))
-}
-
 /// How an object is held, and its name.
 fn life_of<'a>(
     alloc: Global,
@@ -87,11 +66,17 @@ fn life_of<'a>(
     requires { AreYoungest (nodes_held (updates_of rows.now)) names.now.map }
     ensures { IfOk result (λ life. life ≡ life_of rows.now object.now) }
 {
-    if rows.row(Key::deleted(object)).is_none() {
-        return life_beside(alloc, rows, names, object);
+    if rows.row(Key::deleted(object)).is_some() {
+        let text = text_written(alloc, rows, object)?;
+        return Ok((Life::Dead, deleted_name(alloc, &text, object.guid)?));
     }
-    let text = text_written(alloc, rows, object)?;
-    Ok((Life::Dead, deleted_name(alloc, &text, object.guid)?))
+    if let Some(node) = rows.node(object.guid) {
+        if is_same_object(&node.object(), object) {
+            let name = shown_name(alloc, names, rows.place(node), node)?;
+            return Ok((Life::Live, name));
+        }
+    }
+    Ok((Life::Hidden, text_written(alloc, rows, object)?))
 }
 
 /// The line of an object.
