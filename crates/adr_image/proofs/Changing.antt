@@ -7,7 +7,7 @@ use Rattle.adr_stamp.specs.declared.Oid.{Oid}
 use Rattle.adr_vector.specs.Vector.{Cursors}
 use Rattle.adr_wire.specs.declared.refusal.Malformed.{Malformed}
 use Rattle.adr_wire.specs.Fields.{u8_at, u32_at, usn_at, usn0_at, flag_at}
-use Rattle.adr_wire.specs.Composites.{LinkItem, Row, link_at, object_at, oid_at, vector_at}
+use Rattle.adr_wire.specs.Composites.{link_at, object_at, oid_at, vector_at}
 use Rattle.adr_wire.specs.Pieces.{Piece, OfRows, OfLink, piece_of, piece_at}
 use Rattle.adr_wire.specs.Reading.{Rest, Read, Reading, ◌>>=◌, where_at, then_at, elements_at, gathered_at, is_above, keyed}
 use Rattle.adr_wire.proofs.Loops.{behind_count, begins, refuses_is, refuses_then, with_front}
@@ -81,27 +81,21 @@ module _ (before : ℕ) where
 -- ---- pieces, behind their kind
 
 module _ (r : Result Item (Failure Malformed)) (rest mid end : Rest) where
+  seen_as : {A : Type 0} (read : Reading A) (made : A → Piece) → piece_at rest ≡ (read mid >>= λ z. Ok (made z.0, z.1)) → GivesSeen (λ item x. item ≡ item_of (made x)) r end (read mid)
+      → GivesSeen (λ item p. item ≡ item_of p) r end (piece_at rest)
+  seen_as {A} read made here = by r
+    where
+      by : (s : Result Item (Failure Malformed)) → GivesSeen (λ item x. item ≡ item_of (made x)) s end (read mid) → GivesSeen (λ item p. item ≡ item_of p) s end (piece_at rest)
+      by (Ok item) g = (made g.0, here ∙ ap (λ (x : Read A). x >>= λ z. Ok (made z.0, z.1)) g.1, g.2)
+      by (Err e) g = refuses_is e (read mid >>= λ z. Ok (made z.0, z.1)) (piece_at rest) (sym here) (refuses_then e (read mid) (λ z. Ok (made z.0, z.1)) g)
+
   pub rows_seen : u8_at rest ≡ Ok (1, mid) → GivesSeen (λ item x. item ≡ object_item x) r end (object_at mid) → GivesSeen (λ item p. item ≡ item_of p) r end (piece_at rest)
   unfolding piece_at
-  rows_seen kind = by r
-    where
-      here : piece_at rest ≡ (object_at mid >>= λ z. Ok (OfRows z.0, z.1))
-      here = ap (λ (k : Read ℕ). k >>= λ x. piece_of rest.place x.0 x.1) kind
-
-      by : (s : Result Item (Failure Malformed)) → GivesSeen (λ item x. item ≡ object_item x) s end (object_at mid) → GivesSeen (λ item p. item ≡ item_of p) s end (piece_at rest)
-      by (Ok item) g = (OfRows g.0, here ∙ ap (λ (x : Read (Oid × List Row)). x >>= λ z. Ok (OfRows z.0, z.1)) g.1, g.2)
-      by (Err e) g = refuses_is e (object_at mid >>= λ z. Ok (OfRows z.0, z.1)) (piece_at rest) (sym here) (refuses_then e (object_at mid) (λ z. Ok (OfRows z.0, z.1)) g)
+  rows_seen kind = seen_as object_at OfRows (ap (λ (k : Read ℕ). k >>= λ x. piece_of rest.place x.0 x.1) kind)
 
   pub link_seen : u8_at rest ≡ Ok (2, mid) → GivesSeen (λ item l. item ≡ link_item l) r end (link_at mid) → GivesSeen (λ item p. item ≡ item_of p) r end (piece_at rest)
   unfolding piece_at
-  link_seen kind = by r
-    where
-      here : piece_at rest ≡ (link_at mid >>= λ z. Ok (OfLink z.0, z.1))
-      here = ap (λ (k : Read ℕ). k >>= λ x. piece_of rest.place x.0 x.1) kind
-
-      by : (s : Result Item (Failure Malformed)) → GivesSeen (λ item l. item ≡ link_item l) s end (link_at mid) → GivesSeen (λ item p. item ≡ item_of p) s end (piece_at rest)
-      by (Ok item) g = (OfLink g.0, here ∙ ap (λ (x : Read LinkItem). x >>= λ z. Ok (OfLink z.0, z.1)) g.1, g.2)
-      by (Err e) g = refuses_is e (link_at mid >>= λ z. Ok (OfLink z.0, z.1)) (piece_at rest) (sym here) (refuses_then e (link_at mid) (λ z. Ok (OfLink z.0, z.1)) g)
+  link_seen kind = seen_as link_at OfLink (ap (λ (k : Read ℕ). k >>= λ x. piece_of rest.place x.0 x.1) kind)
 
 pub write_read : (rest mid end : Rest) (last local : ℕ) (p : Piece) → where_at (is_above nat_cmp (Some last)) usn_at rest ≡ Ok (local, mid) → piece_at mid ≡ Ok (p, end) → write_above (Some last) rest ≡ Ok ((local, p), end)
 unfolding write_above
