@@ -30,6 +30,35 @@ pub struct TableData {
     pub attributes: &'static [AttributeEntry],
 }
 
+/// The attributes of both schemas, ahead of more: those with values, and those of links.
+#[rattlefmt::skip]
+macro_rules! attributes {
+    ($($value:expr,)* ; $($link:expr,)*) => {
+        &[
+            AttributeEntry { number: 1, name: "class", kind: Reserved },
+            AttributeEntry { number: 2, name: "name", kind: Reserved },
+            AttributeEntry { number: 3, name: "deleted", kind: Reserved },
+            AttributeEntry { number: 10, name: "sAMAccountName", kind: Plain { syntax: Text { least: 1, greatest: 20 }, most: 1 } },
+            AttributeEntry { number: 11, name: "displayName", kind: Plain { syntax: Text { least: 1, greatest: 256 }, most: 1 } },
+            AttributeEntry { number: 12, name: "description", kind: Plain { syntax: Text { least: 1, greatest: 256 }, most: 8 } },
+            AttributeEntry { number: 13, name: "mail", kind: Plain { syntax: Text { least: 1, greatest: 256 }, most: 1 } },
+            AttributeEntry { number: 14, name: "telephoneNumber", kind: Plain { syntax: Text { least: 1, greatest: 64 }, most: 8 } },
+            AttributeEntry { number: 15, name: "employeeNumber", kind: Plain { syntax: Number { least: 0, greatest: 999_999_999 }, most: 1 } },
+            AttributeEntry { number: 16, name: "disabled", kind: Plain { syntax: Flag, most: 1 } },
+            AttributeEntry { number: 17, name: "thumbprint", kind: Plain { syntax: Octets { least: 1, greatest: 64 }, most: 4 } },
+            AttributeEntry { number: 18, name: "seeAlso", kind: Plain { syntax: Ref, most: 8 } },
+            AttributeEntry { number: 19, name: "groupType", kind: Plain { syntax: Number { least: -2_147_483_648, greatest: 2_147_483_647 }, most: 1 } },
+            AttributeEntry { number: 20, name: "location", kind: Plain { syntax: Text { least: 1, greatest: 128 }, most: 1 } },
+            $($value,)*
+            AttributeEntry { number: 30, name: "member", kind: Forward { back: 31 } },
+            AttributeEntry { number: 31, name: "memberOf", kind: Back { forward: 30 } },
+            AttributeEntry { number: 32, name: "manager", kind: Forward { back: 33 } },
+            AttributeEntry { number: 33, name: "directReports", kind: Back { forward: 32 } },
+            $($link,)*
+        ]
+    };
+}
+
 #[rattlefmt::skip]
 static SCHEMA_1: TableData = TableData {
     number: 1,
@@ -40,26 +69,7 @@ static SCHEMA_1: TableData = TableData {
         ClassEntry { number: 6, name: "group", must: &[19], may: &[10, 12, 13, 18, 30], superiors: &[1, 3, 4] },
         ClassEntry { number: 7, name: "computer", must: &[10], may: &[12, 16, 17, 20], superiors: &[1, 3, 4] },
     ],
-    attributes: &[
-        AttributeEntry { number: 1, name: "class", kind: Reserved },
-        AttributeEntry { number: 2, name: "name", kind: Reserved },
-        AttributeEntry { number: 3, name: "deleted", kind: Reserved },
-        AttributeEntry { number: 10, name: "sAMAccountName", kind: Plain { syntax: Text { least: 1, greatest: 20 }, most: 1 } },
-        AttributeEntry { number: 11, name: "displayName", kind: Plain { syntax: Text { least: 1, greatest: 256 }, most: 1 } },
-        AttributeEntry { number: 12, name: "description", kind: Plain { syntax: Text { least: 1, greatest: 256 }, most: 8 } },
-        AttributeEntry { number: 13, name: "mail", kind: Plain { syntax: Text { least: 1, greatest: 256 }, most: 1 } },
-        AttributeEntry { number: 14, name: "telephoneNumber", kind: Plain { syntax: Text { least: 1, greatest: 64 }, most: 8 } },
-        AttributeEntry { number: 15, name: "employeeNumber", kind: Plain { syntax: Number { least: 0, greatest: 999_999_999 }, most: 1 } },
-        AttributeEntry { number: 16, name: "disabled", kind: Plain { syntax: Flag, most: 1 } },
-        AttributeEntry { number: 17, name: "thumbprint", kind: Plain { syntax: Octets { least: 1, greatest: 64 }, most: 4 } },
-        AttributeEntry { number: 18, name: "seeAlso", kind: Plain { syntax: Ref, most: 8 } },
-        AttributeEntry { number: 19, name: "groupType", kind: Plain { syntax: Number { least: -2_147_483_648, greatest: 2_147_483_647 }, most: 1 } },
-        AttributeEntry { number: 20, name: "location", kind: Plain { syntax: Text { least: 1, greatest: 128 }, most: 1 } },
-        AttributeEntry { number: 30, name: "member", kind: Forward { back: 31 } },
-        AttributeEntry { number: 31, name: "memberOf", kind: Back { forward: 30 } },
-        AttributeEntry { number: 32, name: "manager", kind: Forward { back: 33 } },
-        AttributeEntry { number: 33, name: "directReports", kind: Back { forward: 32 } },
-    ],
+    attributes: attributes![;],
 };
 
 #[rattlefmt::skip]
@@ -73,28 +83,11 @@ static SCHEMA_2: TableData = TableData {
         ClassEntry { number: 7, name: "computer", must: &[10], may: &[12, 16, 17, 20, 34], superiors: &[1, 3, 4] },
         ClassEntry { number: 8, name: "contact", must: &[], may: &[11, 12, 13, 14, 18, 21, 32], superiors: &[1, 3, 4] },
     ],
-    attributes: &[
-        AttributeEntry { number: 1, name: "class", kind: Reserved },
-        AttributeEntry { number: 2, name: "name", kind: Reserved },
-        AttributeEntry { number: 3, name: "deleted", kind: Reserved },
-        AttributeEntry { number: 10, name: "sAMAccountName", kind: Plain { syntax: Text { least: 1, greatest: 20 }, most: 1 } },
-        AttributeEntry { number: 11, name: "displayName", kind: Plain { syntax: Text { least: 1, greatest: 256 }, most: 1 } },
-        AttributeEntry { number: 12, name: "description", kind: Plain { syntax: Text { least: 1, greatest: 256 }, most: 8 } },
-        AttributeEntry { number: 13, name: "mail", kind: Plain { syntax: Text { least: 1, greatest: 256 }, most: 1 } },
-        AttributeEntry { number: 14, name: "telephoneNumber", kind: Plain { syntax: Text { least: 1, greatest: 64 }, most: 8 } },
-        AttributeEntry { number: 15, name: "employeeNumber", kind: Plain { syntax: Number { least: 0, greatest: 999_999_999 }, most: 1 } },
-        AttributeEntry { number: 16, name: "disabled", kind: Plain { syntax: Flag, most: 1 } },
-        AttributeEntry { number: 17, name: "thumbprint", kind: Plain { syntax: Octets { least: 1, greatest: 64 }, most: 4 } },
-        AttributeEntry { number: 18, name: "seeAlso", kind: Plain { syntax: Ref, most: 8 } },
-        AttributeEntry { number: 19, name: "groupType", kind: Plain { syntax: Number { least: -2_147_483_648, greatest: 2_147_483_647 }, most: 1 } },
-        AttributeEntry { number: 20, name: "location", kind: Plain { syntax: Text { least: 1, greatest: 128 }, most: 1 } },
+    attributes: attributes![
         AttributeEntry { number: 21, name: "title", kind: Plain { syntax: Text { least: 1, greatest: 128 }, most: 1 } },
         AttributeEntry { number: 22, name: "department", kind: Plain { syntax: Text { least: 1, greatest: 64 }, most: 1 } },
         AttributeEntry { number: 23, name: "accountExpires", kind: Plain { syntax: Number { least: 0, greatest: 9_223_372_036_854_775_807 }, most: 1 } },
-        AttributeEntry { number: 30, name: "member", kind: Forward { back: 31 } },
-        AttributeEntry { number: 31, name: "memberOf", kind: Back { forward: 30 } },
-        AttributeEntry { number: 32, name: "manager", kind: Forward { back: 33 } },
-        AttributeEntry { number: 33, name: "directReports", kind: Back { forward: 32 } },
+        ;
         AttributeEntry { number: 34, name: "managedBy", kind: Forward { back: 35 } },
         AttributeEntry { number: 35, name: "managedObjects", kind: Back { forward: 34 } },
     ],

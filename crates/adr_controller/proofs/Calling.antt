@@ -1,5 +1,5 @@
 -- A call of a controller, by what it committed.
-use Rattle.std.proofs.Common.{◌≡◌, ◌⊎◌, inl, inr, ⊎_elim, ◌∙◌, sym, ap, subst, refl, ℕ, Bool, true, false, Option, Some, None, IsSome, Result, Ok, Err, arith}
+use Rattle.std.proofs.Common.{◌≡◌, ◌⊎◌, inl, inr, ⊎_elim, ◌∙◌, sym, ap, subst, refl, Bool, true, false, Option, Some, None, IsSome, Result, Ok, Err, arith}
 use Rattle.std.specs.Prelude.{◌↔◌}
 use Rattle.std.specs.Bool.{then_some}
 use Rattle.adr_failure.specs.declared.Failure.{Failure}

@@ -22,8 +22,13 @@ use Rattle.adr_controller.specs.Did.{Commits, IsBoundedBy, KeepsAll, KeepsChange
 use Rattle.adr_controller.proofs.Bounding.{new_bound, same_bound}
 
 -- how a call ended that was hindered
-pub hindered_by : {T : Type 0} (h : Hindrance) (result : Result T Hindrance) (y : Hindrance) → result ≡ Err y → y ≡ h → Some h ≡ hindrance_of result
+hindered_by : {T : Type 0} (h : Hindrance) (result : Result T Hindrance) (y : Hindrance) → result ≡ Err y → y ≡ h → Some h ≡ hindrance_of result
 hindered_by {T} h result y is gives = sym (ap (hindrance_of {T = T}) (is ∙ ap (λ e. let x : Result T Hindrance = Err e in x) gives))
+
+-- what keeping a change came to, told by how the call ended
+pub ended_so : {K T : Type 0} (k : Ghosts K) (s : State) (c : Change) (old new : K) (t : State) (h : Hindrance) (result : Result T Hindrance) (y : Hindrance) → result ≡ Err y → y ≡ h
+    → KeepsChange k s c (up_behind None old s) (up_behind (Some h) new t) (Some h) → KeepsChange k s c (up_behind None old s) (up_behind (hindrance_of result) new t) (hindrance_of result)
+ended_so k s c old new t h result y is gives keeps = subst (λ how. KeepsChange k s c (up_behind None old s) (up_behind how new t) how) (hindered_by h result y is gives) keeps
 
 abbrev run : {K : Type 0} → K → Option State → Bool → Running K
 run keeper state down = record { keeper = keeper; state = state; down = down }

@@ -1,9 +1,7 @@
 -- What holds of a controller in order.
-use Rattle.std.proofs.Common.{◌≡◌, ◌∙◌, true, None}
-use Rattle.adr_model.specs.Store.{State}
-use Rattle.adr_law_journal.specs.Areas.{Found, found}
+use Rattle.std.proofs.Common.{◌≡◌, true, None}
 use Rattle.adr_journal.specs.declared.keeper.Keeper.{Ghosts}
-use Rattle.adr_controller.specs.Running.{Running, IsUp, IsInOrder}
+use Rattle.adr_controller.specs.Running.{Running, IsInOrder}
 use Rattle.adr_controller.proofs.Results.{none_of}
 
 module _ {K : Type 0} (k : Ghosts K) where

@@ -1,5 +1,5 @@
 -- What committing a change does to a controller.
-use Rattle.std.specs.Prelude.{◌≡◌, ◌⊎◌, ◌↔◌, ◌<◌, ◌≤◌, ◌+◌, ℕ, max, if◌then◌else◌, true, false, Option, Some, None, IfSome, IsSome, Bool}
+use Rattle.std.specs.Prelude.{◌≡◌, ◌⊎◌, ◌↔◌, ◌<◌, ◌≤◌, ◌+◌, ℕ, max, if◌then◌else◌, true, false, Option, Some, None, IfSome, IsSome}
 use Rattle.adr_disk.specs.Disk.{Among, Keeps, LeavesOnly}
 use Rattle.adr_model.specs.Store.{State}
 use Rattle.adr_model.specs.Change.{Change, after}

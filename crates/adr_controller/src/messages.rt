@@ -96,31 +96,16 @@ impl<K: Keeper> Controller<K> {
         self.commit(change)
     }
 
-    /// Refuses a request. A controller that it shows to be put back is quarantined before.
-    fn refuse_request(&mut self, alloc: Global, refusal: ServeRefusal) -> CallRefusal<ServeRefusal>
+    /// Refuses a message. A controller that the refusal shows to be put back is quarantined before.
+    fn refuse<R: Copy>(&mut self, alloc: Global, refusal: R, put_back: bool) -> CallRefusal<R>
         requires up { IsSome self.old.state }
         requires follows { ForSome self.old.state (λ s.
-            request_shows refusal ≡ true → CanCommit K.Keeper s (quarantine s)) }
-        ensures refused { (r : ServeRefusal) → result ≡ CallRefusal.Refused r → r ≡ refusal }
-        ensures unshown { request_shows refusal ≡ false → result ≡ CallRefusal.Refused refusal }
-        ensures calls { Calls K.Keeper (quarantine_in (request_shows refusal)) self.old self.new (hindrance_in result) }
+            put_back ≡ true → CanCommit K.Keeper s (quarantine s)) }
+        ensures refused { (r : R) → result ≡ CallRefusal.Refused r → r ≡ refusal }
+        ensures unshown { put_back ≡ false → result ≡ CallRefusal.Refused refusal }
+        ensures calls { Calls K.Keeper (quarantine_in put_back) self.old self.new (hindrance_in result) }
     {
-        match self.quarantine_if(alloc, request_shows(&refusal)) {
-            Ok(()) => CallRefusal::Refused(refusal),
-            Err(hindrance) => CallRefusal::Hindered(hindrance),
-        }
-    }
-
-    /// Refuses a reply. A controller that it shows to be put back is quarantined before.
-    fn refuse_reply(&mut self, alloc: Global, refusal: TakeRefusal) -> CallRefusal<TakeRefusal>
-        requires up { IsSome self.old.state }
-        requires follows { ForSome self.old.state (λ s.
-            reply_shows refusal ≡ true → CanCommit K.Keeper s (quarantine s)) }
-        ensures refused { (r : TakeRefusal) → result ≡ CallRefusal.Refused r → r ≡ refusal }
-        ensures unshown { reply_shows refusal ≡ false → result ≡ CallRefusal.Refused refusal }
-        ensures calls { Calls K.Keeper (quarantine_in (reply_shows refusal)) self.old self.new (hindrance_in result) }
-    {
-        match self.quarantine_if(alloc, reply_shows(&refusal)) {
+        match self.quarantine_if(alloc, put_back) {
             Ok(()) => CallRefusal::Refused(refusal),
             Err(hindrance) => CallRefusal::Hindered(hindrance),
         }
@@ -168,7 +153,10 @@ impl<K: Keeper> Controller<K> {
         match serve(alloc, state, request) {
             Ok(reply) => Ok(reply),
             Err(Failure::NoMemory) => Err(CallRefusal::Hindered(Hindrance::NoMemory)),
-            Err(Failure::Refused(refusal)) => Err(self.refuse_request(alloc, refusal)),
+            Err(Failure::Refused(refusal)) => {
+                let put_back = request_shows(&refusal);
+                Err(self.refuse(alloc, refusal, put_back))
+            }
         }
     }
 
@@ -199,7 +187,10 @@ impl<K: Keeper> Controller<K> {
                 self.conclude(change, told)
             }
             Err(Failure::NoMemory) => Err(CallRefusal::Hindered(Hindrance::NoMemory)),
-            Err(Failure::Refused(refusal)) => Err(self.refuse_reply(alloc, refusal)),
+            Err(Failure::Refused(refusal)) => {
+                let put_back = reply_shows(&refusal);
+                Err(self.refuse(alloc, refusal, put_back))
+            }
         }
     }
 }

@@ -7,9 +7,9 @@ use Rattle.adr_stamp.specs.declared.Oid.{Oid}
 use Rattle.adr_vector.specs.Vector.{Cursors}
 use Rattle.adr_wire.specs.declared.refusal.Malformed.{Malformed}
 use Rattle.adr_wire.specs.Fields.{u8_at, u32_at, usn_at, usn0_at, flag_at}
-use Rattle.adr_wire.specs.Composites.{LinkItem, Row, link_at, object_at, oid_at, vector_at}
+use Rattle.adr_wire.specs.Composites.{link_at, object_at, oid_at, vector_at}
 use Rattle.adr_wire.specs.Pieces.{Piece, OfRows, OfLink, piece_of, piece_at}
-use Rattle.adr_wire.specs.Reading.{Rest, Read, Reading, ◌>>=◌, Refuses, where_at, then_at, elements_at, gathered_at, is_above, keyed}
+use Rattle.adr_wire.specs.Reading.{Rest, Read, Reading, ◌>>=◌, where_at, then_at, elements_at, gathered_at, is_above, keyed}
 use Rattle.adr_wire.proofs.Loops.{behind_count, begins, refuses_is, refuses_then, with_front}
 use Rattle.adr_model.specs.Change.{Item, Written}
 use Rattle.adr_law_lengths.specs.Written.{link_item, object_item}
@@ -17,7 +17,7 @@ use Rattle.adr_image.specs.Image.{Marked}
 use Rattle.adr_image.specs.Body.{Write, one_name, write_above, mark_if_at, removed_at, writes_at, body_at}
 use Rattle.adr_image.specs.Changes.{item_of, written_of}
 use Rattle.adr_image.specs.Seen.{GivesSeen}
-use Rattle.adr_image.proofs.Steps.{then_ok, then_first, then_second}
+use Rattle.adr_image.proofs.Steps.{then_ok}
 
 -- ---- removed objects
 
@@ -66,50 +66,6 @@ module _ (before : ℕ) where
   abbrev pub b2 : Reading (Bool × (Option Marked × (Cursors × (Cursors × (List Oid × List Write)))))
   b2 = then_at flag_at (λ _. b3)
 
-  module _ (e : Failure Malformed) (r0 : Rest) where
-    pub body_usn : Refuses e (usn0_at r0) → Refuses e (body_at before r0)
-    unfolding body_at
-    body_usn h = then_first e usn0_at (λ _. b2) r0 h
-
-    module _ (usn : ℕ) (r1 : Rest) (p1 : usn0_at r0 ≡ Ok (usn, r1)) where
-      at_b2 : Refuses e (b2 r1) → Refuses e (body_at before r0)
-      unfolding body_at
-      at_b2 h = then_second e usn0_at (λ _. b2) r0 r1 usn p1 h
-
-      pub body_flag : Refuses e (flag_at r1) → Refuses e (body_at before r0)
-      body_flag h = at_b2 (then_first e flag_at (λ _. b3) r1 h)
-
-      module _ (quarantined : Bool) (r2 : Rest) (p2 : flag_at r1 ≡ Ok (quarantined, r2)) where
-        at_b3 : Refuses e (b3 r2) → Refuses e (body_at before r0)
-        at_b3 h = at_b2 (then_second e flag_at (λ _. b3) r1 r2 quarantined p2 h)
-
-        pub body_mark : Refuses e (mark_if_at r2) → Refuses e (body_at before r0)
-        body_mark h = at_b3 (then_first e mark_if_at (λ _. b4) r2 h)
-
-        module _ (mark : Option Marked) (r3 : Rest) (p3 : mark_if_at r2 ≡ Ok (mark, r3)) where
-          at_b4 : Refuses e (b4 r3) → Refuses e (body_at before r0)
-          at_b4 h = at_b3 (then_second e mark_if_at (λ _. b4) r2 r3 mark p3 h)
-
-          pub body_joined : Refuses e (vector_at r3) → Refuses e (body_at before r0)
-          body_joined h = at_b4 (then_first e vector_at (λ _. b5) r3 h)
-
-          module _ (joined : Cursors) (r4 : Rest) (p4 : vector_at r3 ≡ Ok (joined, r4)) where
-            at_b5 : Refuses e (b5 r4) → Refuses e (body_at before r0)
-            at_b5 h = at_b4 (then_second e vector_at (λ _. b5) r3 r4 joined p4 h)
-
-            pub body_purged : Refuses e (vector_at r4) → Refuses e (body_at before r0)
-            body_purged h = at_b5 (then_first e vector_at (λ _. b6) r4 h)
-
-            module _ (purged : Cursors) (r5 : Rest) (p5 : vector_at r4 ≡ Ok (purged, r5)) where
-              at_b6 : Refuses e (b6 r5) → Refuses e (body_at before r0)
-              at_b6 h = at_b5 (then_second e vector_at (λ _. b6) r4 r5 purged p5 h)
-
-              pub body_removed : Refuses e (removed_at r5) → Refuses e (body_at before r0)
-              body_removed h = at_b6 (then_first e removed_at (λ _. writes_at before) r5 h)
-
-              pub body_writes : (removed : List Oid) (r6 : Rest) → removed_at r5 ≡ Ok (removed, r6) → Refuses e (writes_at before r6) → Refuses e (body_at before r0)
-              body_writes removed r6 p6 h = at_b6 (then_second e removed_at (λ _. writes_at before) r5 r6 removed p6 h)
-
   pub body_read : (r0 r1 r2 r3 r4 r5 r6 r7 : Rest) (usn : ℕ) (quarantined : Bool) (mark : Option Marked) (joined purged : Cursors) (removed : List Oid) (writes : List Write)
       → usn0_at r0 ≡ Ok (usn, r1) → flag_at r1 ≡ Ok (quarantined, r2) → mark_if_at r2 ≡ Ok (mark, r3) → vector_at r3 ≡ Ok (joined, r4) → vector_at r4 ≡ Ok (purged, r5) → removed_at r5 ≡ Ok (removed, r6)
       → writes_at before r6 ≡ Ok (writes, r7) → body_at before r0 ≡ Ok ((usn, (quarantined, (mark, (joined, (purged, (removed, writes)))))), r7)
@@ -125,27 +81,21 @@ module _ (before : ℕ) where
 -- ---- pieces, behind their kind
 
 module _ (r : Result Item (Failure Malformed)) (rest mid end : Rest) where
+  seen_as : {A : Type 0} (read : Reading A) (made : A → Piece) → piece_at rest ≡ (read mid >>= λ z. Ok (made z.0, z.1)) → GivesSeen (λ item x. item ≡ item_of (made x)) r end (read mid)
+      → GivesSeen (λ item p. item ≡ item_of p) r end (piece_at rest)
+  seen_as {A} read made here = by r
+    where
+      by : (s : Result Item (Failure Malformed)) → GivesSeen (λ item x. item ≡ item_of (made x)) s end (read mid) → GivesSeen (λ item p. item ≡ item_of p) s end (piece_at rest)
+      by (Ok item) g = (made g.0, here ∙ ap (λ (x : Read A). x >>= λ z. Ok (made z.0, z.1)) g.1, g.2)
+      by (Err e) g = refuses_is e (read mid >>= λ z. Ok (made z.0, z.1)) (piece_at rest) (sym here) (refuses_then e (read mid) (λ z. Ok (made z.0, z.1)) g)
+
   pub rows_seen : u8_at rest ≡ Ok (1, mid) → GivesSeen (λ item x. item ≡ object_item x) r end (object_at mid) → GivesSeen (λ item p. item ≡ item_of p) r end (piece_at rest)
   unfolding piece_at
-  rows_seen kind = by r
-    where
-      here : piece_at rest ≡ (object_at mid >>= λ z. Ok (OfRows z.0, z.1))
-      here = ap (λ (k : Read ℕ). k >>= λ x. piece_of rest.place x.0 x.1) kind
-
-      by : (s : Result Item (Failure Malformed)) → GivesSeen (λ item x. item ≡ object_item x) s end (object_at mid) → GivesSeen (λ item p. item ≡ item_of p) s end (piece_at rest)
-      by (Ok item) g = (OfRows g.0, here ∙ ap (λ (x : Read (Oid × List Row)). x >>= λ z. Ok (OfRows z.0, z.1)) g.1, g.2)
-      by (Err e) g = refuses_is e (object_at mid >>= λ z. Ok (OfRows z.0, z.1)) (piece_at rest) (sym here) (refuses_then e (object_at mid) (λ z. Ok (OfRows z.0, z.1)) g)
+  rows_seen kind = seen_as object_at OfRows (ap (λ (k : Read ℕ). k >>= λ x. piece_of rest.place x.0 x.1) kind)
 
   pub link_seen : u8_at rest ≡ Ok (2, mid) → GivesSeen (λ item l. item ≡ link_item l) r end (link_at mid) → GivesSeen (λ item p. item ≡ item_of p) r end (piece_at rest)
   unfolding piece_at
-  link_seen kind = by r
-    where
-      here : piece_at rest ≡ (link_at mid >>= λ z. Ok (OfLink z.0, z.1))
-      here = ap (λ (k : Read ℕ). k >>= λ x. piece_of rest.place x.0 x.1) kind
-
-      by : (s : Result Item (Failure Malformed)) → GivesSeen (λ item l. item ≡ link_item l) s end (link_at mid) → GivesSeen (λ item p. item ≡ item_of p) s end (piece_at rest)
-      by (Ok item) g = (OfLink g.0, here ∙ ap (λ (x : Read LinkItem). x >>= λ z. Ok (OfLink z.0, z.1)) g.1, g.2)
-      by (Err e) g = refuses_is e (link_at mid >>= λ z. Ok (OfLink z.0, z.1)) (piece_at rest) (sym here) (refuses_then e (link_at mid) (λ z. Ok (OfLink z.0, z.1)) g)
+  link_seen kind = seen_as link_at OfLink (ap (λ (k : Read ℕ). k >>= λ x. piece_of rest.place x.0 x.1) kind)
 
 pub write_read : (rest mid end : Rest) (last local : ℕ) (p : Piece) → where_at (is_above nat_cmp (Some last)) usn_at rest ≡ Ok (local, mid) → piece_at mid ≡ Ok (p, end) → write_above (Some last) rest ≡ Ok ((local, p), end)
 unfolding write_above

@@ -2,17 +2,15 @@
 use Rattle.std.proofs.Common.{◌≡◌, ℕ, ◌-◌, ◌≤◌, ◌^◌, Bool, true, false, cond, eqb, List, [], Option, Some, None, Ok, Err, refl, sym, ap, subst, ◌∙◌, arith}
 use Rattle.std.specs.Prelude.{is_some, nat_le}
 use Rattle.std.proofs.lemmas.Bool.{eqb-true, le-leb, ltb-true}
-use Rattle.adr_failure.specs.declared.Failure.{Failure}
 use Rattle.adr_schema.specs.Numbered.{numbered}
 use Rattle.adr_schema.specs.Schemas.{schema_1, schema_2, schema_table}
 use Rattle.adr_schema.specs.Table.{Table}
 use Rattle.adr_vector.specs.Vector.{Cursors, at_most}
-use Rattle.adr_wire.specs.declared.refusal.Malformed.{Malformed}
-use Rattle.adr_wire.specs.Reading.{Rest, Read, Reading, ◌>>=◌, Refuses, elements_at, where_at, then_at, gathered_at, keyed}
+use Rattle.adr_wire.specs.Reading.{Rest, Read, Reading, ◌>>=◌, elements_at, where_at, then_at, gathered_at, keyed}
 use Rattle.adr_wire.specs.Fields.{u32_at, u64_at, is_usn0, usn0_at}
 use Rattle.adr_wire.specs.Composites.{vector_at}
 use Rattle.adr_wire.proofs.Combining.{bind_ok, passed_ok}
-use Rattle.adr_wire.proofs.Loops.{behind_count, begins, refuses_then, refuses_is, with_front}
+use Rattle.adr_wire.proofs.Loops.{behind_count, begins, with_front}
 use Rattle.adr_model.specs.Take.{mark_limit}
 use Rattle.adr_model.specs.Write.{object_limit, usn_limit}
 use Rattle.adr_image.specs.Image.{Marked, kept_above, marks_of, no_objects, object_at, with_rows}
@@ -22,14 +20,6 @@ use Rattle.adr_image.proofs.WholeLaws.{is_known, Tail, tail_at, three_at, four_a
 pub then_ok : {A B : Type 0} (a : Reading A) (b : A → Reading B) (rest mid end : Rest) (x : A) (y : B) → a rest ≡ Ok (x, mid) → b x mid ≡ Ok (y, end) → then_at a b rest ≡ Ok ((x, y), end)
 then_ok {A} {B} a b rest mid end x y p q =
     ap (λ (r : Read A). r >>= λ z. b z.0 z.1 >>= λ w. Ok ((z.0, w.0), w.1)) p ∙ ap (λ (r : Read B). r >>= λ w. Ok ((x, w.0), w.1)) q
-
-pub then_second : {A B : Type 0} (e : Failure Malformed) (a : Reading A) (b : A → Reading B) (rest mid : Rest) (x : A) → a rest ≡ Ok (x, mid) → Refuses e (b x mid) → Refuses e (then_at a b rest)
-then_second {A} {B} e a b rest mid x p h =
-    refuses_is e (b x mid >>= λ w. Ok ((x, w.0), w.1)) (then_at a b rest) (sym (ap (λ (r : Read A). r >>= λ z. b z.0 z.1 >>= λ w. Ok ((z.0, w.0), w.1)) p))
-    (refuses_then e (b x mid) (λ w. Ok ((x, w.0), w.1)) h)
-
-pub then_first : {A B : Type 0} (e : Failure Malformed) (a : Reading A) (b : A → Reading B) (rest : Rest) → Refuses e (a rest) → Refuses e (then_at a b rest)
-then_first e a b rest h = refuses_then e (a rest) (λ z. b z.0 z.1 >>= λ w. Ok ((z.0, w.0), w.1)) h
 
 -- a number that a schema has is that of the schema
 schema_read : (number : ℕ) (t : Table) → schema_table number ≡ Some t → t.number ≡ number
@@ -65,49 +55,6 @@ objects_begin usn table count rest mid p le =
 
 abbrev pub purged_at : Cursors → Reading Cursors
 purged_at seen = where_at (λ p. at_most p seen) vector_at
-
--- ---- where a part is refused, so is the whole
-
-module _ (e : Failure Malformed) (r0 : Rest) where
-  to_parts : Refuses e (tuple_at r0) → Refuses e (parts_at r0)
-  unfolding parts_at
-  to_parts h = refuses_then e (tuple_at r0) (λ x. Ok (parts_of x.0, x.1)) h
-
-  pub at_schema : Refuses e (where_at is_known u32_at r0) → Refuses e (parts_at r0)
-  unfolding tuple_at
-  at_schema h = to_parts (then_first e (where_at is_known u32_at) six_at r0 h)
-
-  module _ (schema : ℕ) (r1 : Rest) (p1 : where_at is_known u32_at r0 ≡ Ok (schema, r1)) where
-    at_six : Refuses e (six_at schema r1) → Refuses e (parts_at r0)
-    unfolding tuple_at
-    at_six h = to_parts (then_second e (where_at is_known u32_at) six_at r0 r1 schema p1 h)
-
-    pub at_usn : Refuses e (usn0_at r1) → Refuses e (parts_at r0)
-    at_usn h = at_six (then_first e usn0_at (λ usn. five_at usn (numbered schema)) r1 h)
-
-    module _ (usn : ℕ) (r2 : Rest) (p2 : usn0_at r1 ≡ Ok (usn, r2)) where
-      at_five : Refuses e (five_at usn (numbered schema) r2) → Refuses e (parts_at r0)
-      at_five h = at_six (then_second e usn0_at (λ n. five_at n (numbered schema)) r1 r2 usn p2 h)
-
-      pub at_vector : Refuses e (vector_at r2) → Refuses e (parts_at r0)
-      at_vector h = at_five (then_first e vector_at (four_at usn (numbered schema)) r2 h)
-
-      module _ (seen : Cursors) (r3 : Rest) (p3 : vector_at r2 ≡ Ok (seen, r3)) where
-        at_four : Refuses e (four_at usn (numbered schema) seen r3) → Refuses e (parts_at r0)
-        at_four h = at_five (then_second e vector_at (four_at usn (numbered schema)) r2 r3 seen p3 h)
-
-        pub at_purged : Refuses e (purged_at seen r3) → Refuses e (parts_at r0)
-        at_purged h = at_four (then_first e (purged_at seen) (λ _. three_at usn (numbered schema)) r3 h)
-
-        module _ (purged : Cursors) (r4 : Rest) (p4 : purged_at seen r3 ≡ Ok (purged, r4)) where
-          at_three : Refuses e (three_at usn (numbered schema) r4) → Refuses e (parts_at r0)
-          at_three h = at_four (then_second e (purged_at seen) (λ _. three_at usn (numbered schema)) r3 r4 purged p4 h)
-
-          pub at_marks : Refuses e (marks_at r4) → Refuses e (parts_at r0)
-          at_marks h = at_three (then_first e marks_at (λ _. tail_at usn (numbered schema)) r4 h)
-
-          pub at_rows : (marks : List Marked) (r5 : Rest) → marks_at r4 ≡ Ok (marks, r5) → Refuses e (tail_at usn (numbered schema) r5) → Refuses e (parts_at r0)
-          at_rows marks r5 p5 h = at_three (then_second e marks_at (λ _. tail_at usn (numbered schema)) r4 r5 marks p5 h)
 
 -- ---- where all parts are read, so is the whole
 

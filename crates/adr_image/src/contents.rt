@@ -159,6 +159,7 @@ fn read_rows(
 }
 
 /// What stands behind the version.
+#[tactic(auto, unfolding(crate::specs::Whole::parts_at, crate::specs::Whole::tuple_at))]
 pub fn read_contents(reader: &mut Reader<'_>, alloc: Global) -> Result<Contents, WireRefusal>
     ensures { GivesSeen (λ contents p. contents ≡ store_of p) result reader.new (parts_at reader.old) }
 {

@@ -11,7 +11,7 @@ use Rattle.adr_model.specs.Store.{Held, State}
 use Rattle.adr_model.specs.Change.{Item}
 use Rattle.adr_model.specs.Serve.{Request, last_local, units_of, is_above_mark, is_unseen, sendable, candidates, item_length, byte_limit, first_items, reply_of, begins_at, reply_to}
 use Rattle.adr_model.proofs.Members.{of_filter, member_left, member_right}
-use Rattle.adr_law_logs.proofs.Ground.{first_front}
+use Rattle.adr_law_logs.proofs.Ground.{answering, first_front}
 use Rattle.adr_law_logs.proofs.Candidates.{Rises, candidates_rise, candidate_from, unit_there}
 
 -- ---- counting
@@ -76,17 +76,7 @@ abbrev pub beyond : List Held → ℕ → ℕ
 beyond rows obj = length (filter (λ unit. nat_lt obj (last_local rows unit)) (units_of rows))
 
 module _ (s : State) (q : Request) (now : ℕ) (most : 1 ≤ q.max) where
-  abbrev rows : List Held
-  rows = s.store.rows
-
-  abbrev from : Mark
-  from = begins_at s q
-
-  abbrev all : List (ℕ × Item)
-  all = candidates rows from q.vector
-
-  abbrev sent : List (ℕ × Item)
-  sent = first_items q.max byte_limit all
+  open (answering s q) use {rows, from, all, sent}
 
   -- a candidate is of a row whose unit lies beyond the mark
   beyond_from : (c : ℕ × Item) → Member c all → (x : Held) × Member x rows × (c.0 ≡ last_local rows (unit_of x.update.key)) × (nat_lt from.obj (last_local rows (unit_of x.update.key)) ≡ true)

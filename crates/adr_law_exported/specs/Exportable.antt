@@ -7,23 +7,21 @@ use Rattle.adr_records.specs.Logged.{IsLogged}
 use Rattle.adr_model.specs.Member.{Each}
 use Rattle.adr_model.specs.Store.{State, updates_of}
 use Rattle.adr_model.specs.Directory.{directory}
-use Rattle.adr_model.specs.World.{World, empty_world, shown}
-use Rattle.adr_model.specs.Convergence.{MayAllHappen, held_by}
+use Rattle.adr_model.specs.World.{World}
 use Rattle.adr_json.specs.Exportable.{IsExportable}
 use Rattle.adr_law_headline.specs.Throughout.{HoldsAlways}
-use Rattle.adr_law_headline.specs.Formed.{AreSupported, AreAllTyped}
-use Rattle.adr_law_headline.specs.Printable.{AreWhole, IsWholeRow}
+use Rattle.adr_law_headline.specs.Printable.{AllShow, IsWholeRow, RunsAre}
 
--- the directory of what each controller holds is exportable, and so is what it answers where it is asked
+-- what every controller shows is exportable
 abbrev pub ShowExportable : World → Type 0
-ShowExportable w = Each (λ r. IsExportable (directory (held_by r)) × IsExportable (shown w r.safe)) w.replicas
+ShowExportable = AllShow IsExportable
 
 -- at every place of a run and on the way of each line, whether or not a database was put back
 abbrev pub AreExportableThroughout : List Event → Type 0
 AreExportableThroughout es = HoldsAlways es ShowExportable
 
 abbrev pub RunsAreExportable : Type 0
-RunsAreExportable = (es : List Event) → MayAllHappen empty_world es → AreSupported es → AreAllTyped es → AreWhole es → AreExportableThroughout es
+RunsAreExportable = RunsAre AreExportableThroughout
 
 -- of a text that is a schedule nothing more is asked
 abbrev pub TextsAreExportable : Type 0

@@ -5,6 +5,7 @@ use Rattle.std.specs.Prelude.{List, IfSome}
 use Rattle.adr_stamp.specs.declared.Oid.{Oid}
 use Rattle.adr_schema.specs.Assignments.{Given}
 use Rattle.adr_schema.specs.declared.content.Content.TheVariants.{Class, Name, Dead, Values}
+use Rattle.adr_call.specs.declared.directory.Entry.{Entry}
 use Rattle.adr_event.specs.declared.event.Event.{Event}
 use Rattle.adr_token.specs.Laws.{IsIdentifier}
 use Rattle.adr_model.specs.Member.{Each}
@@ -57,13 +58,20 @@ pub record IsWholeRow (u : Update) : Type 0 where
 
 -- ---- runs
 
--- the directory of what each controller holds is printable, and so is what it answers where it is asked
+-- every controller's directory is so: that of what it holds, and what it answers where it is asked
+abbrev pub AllShow : (List Entry → Type 0) → World → Type 0
+AllShow IsSo w = Each (λ r. IsSo (directory (held_by r)) × IsSo (shown w r.safe)) w.replicas
+
 abbrev pub ShowPrintable : World → Type 0
-ShowPrintable w = Each (λ r. IsPrintable (directory (held_by r)) × IsPrintable (shown w r.safe)) w.replicas
+ShowPrintable = AllShow IsPrintable
 
 -- at every place of a run and on the way of each line, whether or not a database was put back
 abbrev pub ArePrintableThroughout : List Event → Type 0
 ArePrintableThroughout es = HoldsAlways es ShowPrintable
 
+-- every run is so of events that the program does, and that write what is whole
+abbrev pub RunsAre : (List Event → Type 0) → Type 0
+RunsAre AreSo = (es : List Event) → MayAllHappen empty_world es → AreSupported es → AreAllTyped es → AreWhole es → AreSo es
+
 abbrev pub RunsArePrintable : Type 0
-RunsArePrintable = (es : List Event) → MayAllHappen empty_world es → AreSupported es → AreAllTyped es → AreWhole es → ArePrintableThroughout es
+RunsArePrintable = RunsAre ArePrintableThroughout

@@ -79,18 +79,21 @@ read_to_item n (c ∷ cs) = ⊎_elim (λ e. inr (c, inl refl, e)) (λ t. inr (t.
 
 -- ---- the ground
 
+-- what an answer is of: the rows, the mark behind which it begins, all that may be sent, and what is sent
+pub record Answering : Type 0 where
+  pub rows : List Held
+  pub from : Mark
+  pub all : List (ℕ × Item)
+  pub sent : List (ℕ × Item)
+
+abbrev pub answering : State → Request → Answering
+answering s q =
+    let from = begins_at s q in
+    let all = candidates s.store.rows from q.vector in
+    record { rows = s.store.rows; from = from; all = all; sent = first_items q.max byte_limit all }
+
 module _ (s : State) (q : Request) (now : ℕ) (alone : AreAlone s.store.rows) where
-  abbrev rows : List Held
-  rows = s.store.rows
-
-  abbrev from : Mark
-  from = begins_at s q
-
-  abbrev all : List (ℕ × Item)
-  all = candidates rows from q.vector
-
-  abbrev sent : List (ℕ × Item)
-  sent = first_items q.max byte_limit all
+  open (answering s q) use {rows, from, all, sent}
 
   abbrev Answered : Held → Reply → Type 0
   Answered x r = Covers (at q.vector) x.update ⊎ (IsSent r x.update ⊎ IsBelow rows from x)

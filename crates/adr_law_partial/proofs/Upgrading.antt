@@ -44,32 +44,14 @@ abbrev second : Store → Store
 second whole = record whole { schema = 2 }
 
 part_upgraded : (p : Partial) (whole : Store) → IsPart p whole → IsPart (partial_after p (upgrade_part p)) (second whole)
-part_upgraded p whole part = record {
-  usn = part.usn;
-  schema = refl;
-  rows = part.rows;
-  vector = same_cursors p part.usn ∙ part.vector;
-  times = part.times;
-  purged = part.purged;
-  marks = part.marks;
-}
+part_upgraded p whole part = assumption (same_cursors p part.usn ∙ part.vector, refl)
 
 passive_upgraded : (book : Book) (whole : Store) → IsPassive book whole → IsPassive book (second whole)
-passive_upgraded book whole is = record {
-  base = record {
-    known = is.base.known;
-    covered = is.base.covered;
-    purged_within = is.base.purged_within;
-    rising = is.base.rising;
-    locals = is.base.locals;
-    alone = is.base.alone;
-    rows = rows_formed_more (numbered whole.schema) (numbered 2) (second_is_last whole.schema) (updates_of whole.rows) is.base.rows;
-    closed = is.base.closed;
-    classes = classes_known_more (numbered whole.schema) (numbered 2) (second_is_last whole.schema) (updates_of whole.rows) is.base.classes;
-  };
-  bounded = is.bounded;
-  marks = is.marks;
-}
+passive_upgraded book whole is =
+    assumption (
+      rows_formed_more (numbered whole.schema) (numbered 2) (second_is_last whole.schema) (updates_of whole.rows) is.base.rows,
+      classes_known_more (numbered whole.schema) (numbered 2) (second_is_last whole.schema) (updates_of whole.rows) is.base.classes,
+    )
 
 pub sound_upgraded : (book : Book) (p : Partial) → IsSoundPartial book p → IsSoundPartial book (partial_after p (upgrade_part p))
 sound_upgraded book p is = record { whole = second is.whole; passive = passive_upgraded book is.whole is.passive; part = part_upgraded p is.whole is.part }

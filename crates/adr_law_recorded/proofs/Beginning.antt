@@ -26,17 +26,7 @@ logged_fits s logged (inl more) = let few = logged.formed.store.vector.few in om
 logged_fits s logged (inr more) = let few = logged.formed.store.purged.few in omega (arith, more, few)
 
 woken_is_spelled : (image : Store) (dsa inv : Identifier) → IsSpelled image → IsId inv → IsSpelled (woken image dsa inv).store
-woken_is_spelled image dsa inv q id = record {
-  schema = q.schema;
-  usn = q.usn;
-  vector = raised_spelled image.vector inv image.usn q.vector id q.usn;
-  times = q.times;
-  purged = q.purged;
-  marks = q.marks;
-  partners = q.partners;
-  rows = q.rows;
-  classes = q.classes;
-}
+woken_is_spelled image dsa inv q id = assumption (raised_spelled image.vector inv image.usn q.vector id q.usn)
 
 pub adopted_is_logged : (image : Store) (dsa inv : Identifier) (s : State) → IsFormedStore image → IsSpelled image → IsId dsa → IsId inv → adopt image dsa inv ≡ Ok s
     → IsLogged s × (s.mode ≡ Normal)

@@ -1,5 +1,5 @@
 -- Where a row is written among rows.
-use Rattle.std.proofs.Common.{◌≡◌, ℕ, ◌+◌, ◌<◌, ◌≤◌, zero, suc, List, [], ◌∷◌, ◌++◌, length, get_or, take, drop, slice_set, refl, sym, ap, ◌∙◌, subst, arith, add-one}
+use Rattle.std.proofs.Common.{◌≡◌, ℕ, ◌+◌, ◌<◌, ◌≤◌, zero, suc, List, [], ◌∷◌, ◌++◌, length, get_or, take, drop, slice_set, refl, sym, ap, ◌∙◌, subst, arith, add-one, Bor}
 use Rattle.std.specs.Prelude.{insert}
 use Rattle.std.specs.List.{AllByRecursion}
 use Rattle.std.specs.declared.cmp.Ordering.TheVariants.{Less, Equal, Greater}
@@ -7,13 +7,15 @@ use Rattle.std.proofs.lemmas.List.{take-append-drop, take_all, drop_more}
 use Rattle.std.proofs.Math.Seq.{take-length, drop-length}
 use Rattle.adr_model.specs.Update.{Key, key_order}
 use Rattle.adr_model.specs.Store.{Held, with_row}
+use Rattle.adr_update.specs.Referents.{referents}
+use Rattle.adr_update.proofs.Referred.{length_referents, referent_at}
 use Rattle.adr_live.specs.Gap.{IsPlaceOf, IsGapFor}
 
 -- the key is above those of all these rows
 abbrev pub IsAbove : Key → List Held → Type 0
 IsAbove key rows = AllByRecursion (λ x. key_order key x.update.key ≡ Greater) rows
 
-pub above_more : (key : Key) (rows : List Held) (i : ℕ) (x : Held) → i < length rows → x ≡ get_or rows i x → IsAbove key (take i rows) → key_order key x.update.key ≡ Greater → IsAbove key (take (i + 1) rows)
+above_more : (key : Key) (rows : List Held) (i : ℕ) (x : Held) → i < length rows → x ≡ get_or rows i x → IsAbove key (take i rows) → key_order key x.update.key ≡ Greater → IsAbove key (take (i + 1) rows)
 above_more key rows i x lt is above here = rw (add-one i) (onward rows i lt is above)
   where
     onward : (xs : List Held) (j : ℕ) → j < length xs → x ≡ get_or xs j x → IsAbove key (take j xs) → IsAbove key (take (suc j) xs)
@@ -51,13 +53,13 @@ module _ (key : Key) (rows : List Held) (i : ℕ) (x : Held) (lt : i < length ro
   onto : (h : Held) → h.update.key ≡ key → with_row rows h ≡ take i rows ++ with_row (x ∷ drop (i + 1) rows) h
   onto h of = written rows i h (subst (λ k. IsAbove k (take i rows)) (sym of) above) ∙ ap (λ xs. take i rows ++ with_row xs h) left
 
-  pub place_at : key_order key x.update.key ≡ Equal → IsPlaceOf rows key i
+  place_at : key_order key x.update.key ≡ Equal → IsPlaceOf rows key i
   place_at here = record { in_range = lt; takes = by }
     where
       by : (h : Held) → h.update.key ≡ key → with_row rows h ≡ slice_set rows i h
       by h of = onto h of ∙ ap (λ xs. take i rows ++ xs) (first_equal h x (drop (i + 1) rows) (subst (λ k. key_order k x.update.key ≡ Equal) (sym of) here)) ∙ set_at rows i h lt
 
-  pub gap_at : key_order key x.update.key ≡ Less → IsGapFor rows key i
+  gap_at : key_order key x.update.key ≡ Less → IsGapFor rows key i
   gap_at here = record { in_range = omega (arith, lt); enters = by }
     where
       by : (h : Held) → h.update.key ≡ key → with_row rows h ≡ insert rows i h
@@ -75,3 +77,17 @@ gap_at_end key rows i ge above = record { in_range = omega arith; enters = by }
     by : (h : Held) → h.update.key ≡ key → with_row rows h ≡ insert rows (length rows) h
     by h of = written rows (length rows) h (subst (λ k. IsAbove k (take (length rows) rows)) (sym of) all)
         ∙ ap (λ xs. take (length rows) rows ++ xs) (ap (λ xs. with_row xs h) none ∙ ap (λ xs. h ∷ xs) (sym none))
+
+-- the same of rows that are referred to
+module _ (key : Key) (rows : List (Bor Held)) (i : ℕ) (x : Bor Held) (lt : i < length rows) (is : x ≡ get_or rows i x) (above : IsAbove key (take i (referents rows))) where
+  within : i < length (referents rows)
+  within = subst (λ n. i < n) (sym (length_referents rows)) lt
+
+  pub gap_here : key_order key x.now.update.key ≡ Less → IsGapFor (referents rows) key i
+  gap_here = gap_at key (referents rows) i x.now within (referent_at rows i x lt is) above
+
+  pub place_here : key_order key x.now.update.key ≡ Equal → IsPlaceOf (referents rows) key i
+  place_here = place_at key (referents rows) i x.now within (referent_at rows i x lt is) above
+
+  pub above_here : key_order key x.now.update.key ≡ Greater → IsAbove key (take (i + 1) (referents rows))
+  above_here = above_more key (referents rows) i x.now within (referent_at rows i x lt is) above

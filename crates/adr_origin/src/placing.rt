@@ -79,19 +79,25 @@ pub fn check_name_free(
     }
 }
 
-/// Tests that no other object than that of a GUID has a name in a place.
+/// The name and the parent that an object is to have.
+#[derive(Drop)]
+pub struct NewName<'a> {
+    pub guid: Guid,
+    pub parent: Guid,
+    pub text: &'a Text,
+}
+
+/// Tests that no other object has a name in a place.
 pub fn check_new_name(
     alloc: Global,
     state: &State,
-    guid: Guid,
-    parent: Guid,
-    text: &Text,
+    name: &NewName<'_>,
 ) -> Result<(), Failure<WriteRefusal>>
-    requires { IsParent (nodes_held (updates_of state.now.store.rows)) parent }
-    ensures { Tells result (name_refusal (nodes_held (updates_of state.now.store.rows)) guid parent text.now) }
+    requires { IsParent (nodes_held (updates_of state.now.store.rows)) name.now.parent }
+    ensures { Tells result (name_refusal (nodes_held (updates_of state.now.store.rows)) name.now.guid name.now.parent name.now.text.now) }
 {
-    if is_taken(alloc, state, guid, parent, text)? {
-        check_name_free(alloc, state, parent, text)
+    if is_taken(alloc, state, name.guid, name.parent, name.text)? {
+        check_name_free(alloc, state, name.parent, name.text)
     } else {
         Ok(())
     }

@@ -13,7 +13,7 @@ ghost use Rattle.adr_origin.specs.Telling.{Tells};
 use crate::adding::own_change;
 use crate::checks::{check_live, check_schema, check_usn, check_version};
 use crate::new_object::name_content;
-use crate::placing::{check_new_name, check_no_loop, check_parent, check_superior};
+use crate::placing::{NewName, check_new_name, check_no_loop, check_parent, check_superior};
 use crate::stamps::{class_of, next_item, object_of};
 use adr_call::{Failure, WriteRefusal};
 use adr_checks::check_name;
@@ -39,7 +39,8 @@ pub fn rename(
     ensures refused { (refusal : WriteRefusal) → IsErrOf result (Failure.Refused refusal)
         → write state.now (Rename guid parent text.now) now ≡ Err refusal }
 {
-    check_rename(alloc, state, guid, parent, text)?;
+    let new = NewName { guid, parent, text };
+    check_rename(alloc, state, &new)?;
     let usn = state.usn() + 1;
     let name = name_content(alloc, text, parent)?;
     let object = object_of(state, guid);
@@ -51,18 +52,16 @@ pub fn rename(
 fn check_rename(
     alloc: Global,
     state: &State,
-    guid: Guid,
-    parent: Guid,
-    text: &Text,
+    name: &NewName<'_>,
 ) -> Result<(), Failure<WriteRefusal>>
-    ensures told { Tells result (rename_refusal state.now guid parent text.now) }
+    ensures told { Tells result (rename_refusal state.now name.now.guid name.now.parent name.now.text.now) }
     ensures room { OnOk result (state.now.store.usn < usn_limit) }
-    ensures version { let object = object_of (nodes_held (updates_of state.now.store.rows)) guid in
+    ensures version { let object = object_of (nodes_held (updates_of state.now.store.rows)) name.now.guid in
         OnOk result (version_of (row_held state.now.store.rows (RowOf object name_attr)) ≢ version_limit) }
 {
-    check_named(state, guid, text)?;
-    check_moved(alloc, state, guid, parent, text)?;
-    check_row(state, &object_of(state, guid), NAME)?;
+    check_named(state, name.guid, name.text)?;
+    check_moved(alloc, state, name)?;
+    check_row(state, &object_of(state, name.guid), NAME)?;
     Ok(())
 }
 
@@ -78,16 +77,14 @@ fn check_named(state: &State, guid: Guid, text: &Text) -> Result<(), WriteRefusa
 fn check_moved(
     alloc: Global,
     state: &State,
-    guid: Guid,
-    parent: Guid,
-    text: &Text,
+    name: &NewName<'_>,
 ) -> Result<(), Failure<WriteRefusal>>
-    ensures { Tells result (moved_refusal (numbered state.now.store.schema) (nodes_held (updates_of state.now.store.rows)) guid parent text.now) }
+    ensures { Tells result (moved_refusal (numbered state.now.store.schema) (nodes_held (updates_of state.now.store.rows)) name.now.guid name.now.parent name.now.text.now) }
 {
-    check_parent(state, parent)?;
-    check_no_loop(state, guid, parent)?;
-    check_superior(state, class_of(state, guid), parent)?;
-    check_new_name(alloc, state, guid, parent, text)
+    check_parent(state, name.parent)?;
+    check_no_loop(state, name.guid, name.parent)?;
+    check_superior(state, class_of(state, name.guid), name.parent)?;
+    check_new_name(alloc, state, name)
 }
 
 /// Tests that a row of an object can be written once more.

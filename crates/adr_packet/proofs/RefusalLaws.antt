@@ -1,12 +1,13 @@
 -- A refusal is spelled in one way.
-use Rattle.std.proofs.Common.{◌≡◌, ℕ, true, false, eqb, List, ◌++◌, Ok, refl, sym, ap, arith}
+use Rattle.std.proofs.Common.{◌≡◌, ℕ, true, eqb, List, ◌++◌, Ok, refl, sym, ap, subst, ◌∙◌, arith}
+use Rattle.std.specs.Prelude.{MatchBool}
 use Rattle.std.proofs.lemmas.Bool.{eqb-true}
 use Rattle.adr_call.specs.declared.refusal.ServeRefusal.TheVariants.{Quarantined, WrongController, BadMark, RolledBack, SchemaMismatch, TooOld}
 use Rattle.adr_wire.specs.Fields.{id_at, id, u8_at, u8, u32_at, u32, u64_at, u64}
 use Rattle.adr_wire.specs.Ranges.{IsId, IsU8, IsU32, IsU64}
 use Rattle.adr_wire.specs.Reading.{as_at, then_at}
 use Rattle.adr_wire.specs.Spelling.{AreBytes, IsSpelling}
-use Rattle.adr_wire.proofs.Combining.{made, in_range_too, passed, pair, followed, either, never, nothing}
+use Rattle.adr_wire.proofs.Combining.{MadeOf, made, in_range_too, passed, pair, followed, either, never, nothing}
 use Rattle.adr_wire.proofs.FieldLaws.{id_spelled, u8_spelled, u32_spelled, u64_spelled}
 use Rattle.adr_packet.specs.declared.refusal.Refusal.{Refusal}
 use Rattle.adr_packet.specs.declared.refusal.Refusal.TheVariants.{Serve, LogFull}
@@ -43,93 +44,65 @@ full_spelled =
 
 -- ---- what stands behind each number
 
+abbrev IsWrong : List ℕ × List ℕ → Type 0
+IsWrong p = IsId p.0 × IsId p.1
+
+abbrev wrong : List ℕ × List ℕ → List ℕ
+wrong p = id p.0 ++ id p.1
+
+abbrev AreSchemas : ℕ × ℕ → Type 0
+AreSchemas p = IsU32 p.0 × IsU32 p.1
+
+abbrev schemas : ℕ × ℕ → List ℕ
+schemas p = u32 p.0 ++ u32 p.1
+
+-- what a refusal of a number says
+abbrev Says : ℕ → Refusal → Type 0
+Says number r =
+    MatchBool (eqb number 23) (r ≡ Serve Quarantined)
+    (MatchBool (eqb number 30) (MadeOf IsWrong wrong (λ p. Serve (WrongController p.0 p.1)) told r)
+    (MatchBool (eqb number 31) (MadeOf AreSchemas schemas (λ p. Serve (SchemaMismatch p.0 p.1)) told r)
+    (MatchBool (eqb number 32) (MadeOf IsShown shown (λ p. Serve (TooOld p.0 p.1.0 p.1.1)) told r)
+    (MatchBool (eqb number 33) (MadeOf IsShown shown (λ p. Serve (RolledBack p.0 p.1.0 p.1.1)) told r)
+    (MatchBool (eqb number 34) (MadeOf IsMarked marked (λ p. Serve (BadMark p.0 p.1.0 p.1.1)) told r)
+    (MatchBool (eqb number 22) (MadeOf IsFull full (λ p. LogFull p.1) told r) ⊥))))))
+
+says : (r : Refusal) → IsRefusal r → Says (number_of r) r
+says (Serve Quarantined) q = refl
+says (Serve (WrongController mine asked)) q = ((mine, asked), refl, q, refl)
+says (Serve (SchemaMismatch mine theirs)) q = ((mine, theirs), refl, q, refl)
+says (Serve (TooOld inv purged has)) q = ((inv, (purged, has)), refl, q, refl)
+says (Serve (RolledBack inv mine shown)) q = ((inv, (mine, shown)), refl, q, refl)
+says (Serve (BadMark prop obj seen)) q = ((prop, (obj, seen)), refl, q, refl)
+says (LogFull limit) q = ((log_table, limit), refl, ((omega arith, refl), q), refl)
+
 module _ (place number : ℕ) where
   abbrev OfNumber : Refusal → Type 0
   OfNumber r = IsRefusal r × (number_of r ≡ number)
 
+  out : (n : ℕ) → number ≡ n → (r : Refusal) → OfNumber r → Says n r
+  out n e r q = subst (λ (k : ℕ). Says k r) (q.1 ∙ e) (says r q.0)
+
   of_nothing : number ≡ 23 → IsSpelling OfNumber told (λ rest. Ok (Serve Quarantined, rest))
-  of_nothing e = nothing OfNumber told (Serve Quarantined) (tt, sym e) refl out
-    where
-      out : (r : Refusal) → OfNumber r → r ≡ Serve Quarantined
-      out (Serve Quarantined) q = refl
-      out (Serve (WrongController mine asked)) q = absurd (let k = q.1 in omega arith)
-      out (Serve (SchemaMismatch mine theirs)) q = absurd (let k = q.1 in omega arith)
-      out (Serve (TooOld inv purged has)) q = absurd (let k = q.1 in omega arith)
-      out (Serve (RolledBack inv mine shown)) q = absurd (let k = q.1 in omega arith)
-      out (Serve (BadMark prop obj seen)) q = absurd (let k = q.1 in omega arith)
-      out (LogFull limit) q = absurd (let k = q.1 in omega arith)
+  of_nothing e = nothing OfNumber told (Serve Quarantined) (tt, sym e) refl (out 23 e)
 
   of_wrong : number ≡ 30 → IsSpelling OfNumber told (as_at (λ p. Serve (WrongController p.0 p.1)) (then_at id_at (λ _. id_at)))
-  of_wrong e = made (λ (p : List ℕ × List ℕ). IsId p.0 × IsId p.1) (λ p. id p.0 ++ id p.1) (then_at id_at (λ _. id_at)) (pair IsId id id_at id_spelled IsId id id_at id_spelled) (λ p. Serve (WrongController p.0 p.1)) OfNumber told out (λ p q fits. ((q, sym e), refl))
-    where
-      out : (r : Refusal) → OfNumber r → (p : List ℕ × List ℕ) × (r ≡ Serve (WrongController p.0 p.1)) × (IsId p.0 × IsId p.1) × (told r ≡ id p.0 ++ id p.1)
-      out (Serve Quarantined) q = absurd (let k = q.1 in omega arith)
-      out (Serve (WrongController mine asked)) q = ((mine, asked), refl, q.0, refl)
-      out (Serve (SchemaMismatch mine theirs)) q = absurd (let k = q.1 in omega arith)
-      out (Serve (TooOld inv purged has)) q = absurd (let k = q.1 in omega arith)
-      out (Serve (RolledBack inv mine shown)) q = absurd (let k = q.1 in omega arith)
-      out (Serve (BadMark prop obj seen)) q = absurd (let k = q.1 in omega arith)
-      out (LogFull limit) q = absurd (let k = q.1 in omega arith)
+  of_wrong e = made IsWrong wrong (then_at id_at (λ _. id_at)) (pair IsId id id_at id_spelled IsId id id_at id_spelled) (λ p. Serve (WrongController p.0 p.1)) OfNumber told (out 30 e) (λ p q fits. ((q, sym e), refl))
 
   of_schema : number ≡ 31 → IsSpelling OfNumber told (as_at (λ p. Serve (SchemaMismatch p.0 p.1)) (then_at u32_at (λ _. u32_at)))
-  of_schema e = made (λ (p : ℕ × ℕ). IsU32 p.0 × IsU32 p.1) (λ p. u32 p.0 ++ u32 p.1) (then_at u32_at (λ _. u32_at)) (pair IsU32 u32 u32_at u32_spelled IsU32 u32 u32_at u32_spelled) (λ p. Serve (SchemaMismatch p.0 p.1)) OfNumber told out (λ p q fits. ((q, sym e), refl))
-    where
-      out : (r : Refusal) → OfNumber r → (p : ℕ × ℕ) × (r ≡ Serve (SchemaMismatch p.0 p.1)) × (IsU32 p.0 × IsU32 p.1) × (told r ≡ u32 p.0 ++ u32 p.1)
-      out (Serve Quarantined) q = absurd (let k = q.1 in omega arith)
-      out (Serve (WrongController mine asked)) q = absurd (let k = q.1 in omega arith)
-      out (Serve (SchemaMismatch mine theirs)) q = ((mine, theirs), refl, q.0, refl)
-      out (Serve (TooOld inv purged has)) q = absurd (let k = q.1 in omega arith)
-      out (Serve (RolledBack inv mine shown)) q = absurd (let k = q.1 in omega arith)
-      out (Serve (BadMark prop obj seen)) q = absurd (let k = q.1 in omega arith)
-      out (LogFull limit) q = absurd (let k = q.1 in omega arith)
+  of_schema e = made AreSchemas schemas (then_at u32_at (λ _. u32_at)) (pair IsU32 u32 u32_at u32_spelled IsU32 u32 u32_at u32_spelled) (λ p. Serve (SchemaMismatch p.0 p.1)) OfNumber told (out 31 e) (λ p q fits. ((q, sym e), refl))
 
   of_old : number ≡ 32 → IsSpelling OfNumber told (as_at (λ p. Serve (TooOld p.0 p.1.0 p.1.1)) shown_at)
-  of_old e = made (IsShown) (shown) shown_at shown_spelled (λ p. Serve (TooOld p.0 p.1.0 p.1.1)) OfNumber told out (λ p q fits. ((q, sym e), refl))
-    where
-      out : (r : Refusal) → OfNumber r → (p : List ℕ × (ℕ × ℕ)) × (r ≡ Serve (TooOld p.0 p.1.0 p.1.1)) × IsShown p × (told r ≡ shown p)
-      out (Serve Quarantined) q = absurd (let k = q.1 in omega arith)
-      out (Serve (WrongController mine asked)) q = absurd (let k = q.1 in omega arith)
-      out (Serve (SchemaMismatch mine theirs)) q = absurd (let k = q.1 in omega arith)
-      out (Serve (TooOld inv purged has)) q = ((inv, (purged, has)), refl, q.0, refl)
-      out (Serve (RolledBack inv mine shown)) q = absurd (let k = q.1 in omega arith)
-      out (Serve (BadMark prop obj seen)) q = absurd (let k = q.1 in omega arith)
-      out (LogFull limit) q = absurd (let k = q.1 in omega arith)
+  of_old e = made IsShown shown shown_at shown_spelled (λ p. Serve (TooOld p.0 p.1.0 p.1.1)) OfNumber told (out 32 e) (λ p q fits. ((q, sym e), refl))
 
   of_rolled : number ≡ 33 → IsSpelling OfNumber told (as_at (λ p. Serve (RolledBack p.0 p.1.0 p.1.1)) shown_at)
-  of_rolled e = made (IsShown) (shown) shown_at shown_spelled (λ p. Serve (RolledBack p.0 p.1.0 p.1.1)) OfNumber told out (λ p q fits. ((q, sym e), refl))
-    where
-      out : (r : Refusal) → OfNumber r → (p : List ℕ × (ℕ × ℕ)) × (r ≡ Serve (RolledBack p.0 p.1.0 p.1.1)) × IsShown p × (told r ≡ shown p)
-      out (Serve Quarantined) q = absurd (let k = q.1 in omega arith)
-      out (Serve (WrongController mine asked)) q = absurd (let k = q.1 in omega arith)
-      out (Serve (SchemaMismatch mine theirs)) q = absurd (let k = q.1 in omega arith)
-      out (Serve (TooOld inv purged has)) q = absurd (let k = q.1 in omega arith)
-      out (Serve (RolledBack inv mine shown)) q = ((inv, (mine, shown)), refl, q.0, refl)
-      out (Serve (BadMark prop obj seen)) q = absurd (let k = q.1 in omega arith)
-      out (LogFull limit) q = absurd (let k = q.1 in omega arith)
+  of_rolled e = made IsShown shown shown_at shown_spelled (λ p. Serve (RolledBack p.0 p.1.0 p.1.1)) OfNumber told (out 33 e) (λ p q fits. ((q, sym e), refl))
 
   of_mark : number ≡ 34 → IsSpelling OfNumber told (as_at (λ p. Serve (BadMark p.0 p.1.0 p.1.1)) marked_at)
-  of_mark e = made (IsMarked) (marked) marked_at marked_spelled (λ p. Serve (BadMark p.0 p.1.0 p.1.1)) OfNumber told out (λ p q fits. ((q, sym e), refl))
-    where
-      out : (r : Refusal) → OfNumber r → (p : ℕ × (ℕ × ℕ)) × (r ≡ Serve (BadMark p.0 p.1.0 p.1.1)) × IsMarked p × (told r ≡ marked p)
-      out (Serve Quarantined) q = absurd (let k = q.1 in omega arith)
-      out (Serve (WrongController mine asked)) q = absurd (let k = q.1 in omega arith)
-      out (Serve (SchemaMismatch mine theirs)) q = absurd (let k = q.1 in omega arith)
-      out (Serve (TooOld inv purged has)) q = absurd (let k = q.1 in omega arith)
-      out (Serve (RolledBack inv mine shown)) q = absurd (let k = q.1 in omega arith)
-      out (Serve (BadMark prop obj seen)) q = ((prop, (obj, seen)), refl, q.0, refl)
-      out (LogFull limit) q = absurd (let k = q.1 in omega arith)
+  of_mark e = made IsMarked marked marked_at marked_spelled (λ p. Serve (BadMark p.0 p.1.0 p.1.1)) OfNumber told (out 34 e) (λ p q fits. ((q, sym e), refl))
 
   of_full : number ≡ 22 → IsSpelling OfNumber told (as_at (λ p. LogFull p.1) (then_at table_at (λ _. u64_at)))
-  of_full e = made (IsFull) (full) (then_at table_at (λ _. u64_at)) full_spelled (λ p. LogFull p.1) OfNumber told out (λ p q fits. ((q.1, sym e), ap (λ (n : ℕ). u8 n ++ u64 p.1) (sym (eqb-true p.0 log_table q.0.1))))
-    where
-      out : (r : Refusal) → OfNumber r → (p : ℕ × ℕ) × (r ≡ LogFull p.1) × IsFull p × (told r ≡ full p)
-      out (Serve Quarantined) q = absurd (let k = q.1 in omega arith)
-      out (Serve (WrongController mine asked)) q = absurd (let k = q.1 in omega arith)
-      out (Serve (SchemaMismatch mine theirs)) q = absurd (let k = q.1 in omega arith)
-      out (Serve (TooOld inv purged has)) q = absurd (let k = q.1 in omega arith)
-      out (Serve (RolledBack inv mine shown)) q = absurd (let k = q.1 in omega arith)
-      out (Serve (BadMark prop obj seen)) q = absurd (let k = q.1 in omega arith)
-      out (LogFull limit) q = ((log_table, limit), refl, ((omega arith, refl), q.0), refl)
+  of_full e = made IsFull full (then_at table_at (λ _. u64_at)) full_spelled (λ p. LogFull p.1) OfNumber told (out 22 e) (λ p q fits. ((q.1, sym e), ap (λ (n : ℕ). u8 n ++ u64 p.1) (sym (eqb-true p.0 log_table q.0.1))))
 
   of_number : IsSpelling OfNumber told (told_at place number)
   of_number =
@@ -140,20 +113,7 @@ module _ (place number : ℕ) where
       either OfNumber told (eqb number 33) _ _ (λ e. of_rolled (eqb-true number 33 e)) (λ n5.
       either OfNumber told (eqb number 34) _ _ (λ e. of_mark (eqb-true number 34 e)) (λ n6.
       either OfNumber told (eqb number 22) _ _ (λ e. of_full (eqb-true number 22 e)) (λ n7.
-      never OfNumber told place (none n1 n2 n3 n4 n5 n6 n7))))))))
-    where
-      other : (n m : ℕ) → eqb number n ≡ false → m ≡ number → eqb m n ≡ true → ⊥
-      other n m differs is same = let g = ap (λ (k : ℕ). eqb k n) is in cc
-
-      none : eqb number 23 ≡ false → eqb number 30 ≡ false → eqb number 31 ≡ false → eqb number 32 ≡ false → eqb number 33 ≡ false → eqb number 34 ≡ false → eqb number 22 ≡ false
-          → (r : Refusal) → OfNumber r → ⊥
-      none n1 n2 n3 n4 n5 n6 n7 (Serve Quarantined) q = other 23 23 n1 q.1 refl
-      none n1 n2 n3 n4 n5 n6 n7 (Serve (WrongController mine asked)) q = other 30 30 n2 q.1 refl
-      none n1 n2 n3 n4 n5 n6 n7 (Serve (SchemaMismatch mine theirs)) q = other 31 31 n3 q.1 refl
-      none n1 n2 n3 n4 n5 n6 n7 (Serve (TooOld inv purged has)) q = other 32 32 n4 q.1 refl
-      none n1 n2 n3 n4 n5 n6 n7 (Serve (RolledBack inv mine seen)) q = other 33 33 n5 q.1 refl
-      none n1 n2 n3 n4 n5 n6 n7 (Serve (BadMark prop obj seen)) q = other 34 34 n6 q.1 refl
-      none n1 n2 n3 n4 n5 n6 n7 (LogFull limit) q = other 22 22 n7 q.1 refl
+      never OfNumber told place (λ r q. rw (n1, n2, n3, n4, n5, n6, n7) at (out number refl r q)))))))))
 
 small : (r : Refusal) → IsU8 (number_of r)
 small (Serve Quarantined) = omega arith

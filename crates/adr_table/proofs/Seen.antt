@@ -15,7 +15,7 @@ use Rattle.std.proofs.lemmas.Map.Keys.{sorted_head, sorted_tail}
 use Rattle.adr_model.specs.Update.{Key, key_order, same_key}
 use Rattle.adr_model.proofs.Keys.{equal_order}
 use Rattle.adr_model.specs.Store.{Held, row_held, with_row}
-use Rattle.adr_update.proofs.Slots.{found as at_home_found, home_still as still_at_home, later_none as none_later, made as unseen_made, none_below as none_under, slot_made as made_or_there, still_some}
+use Rattle.adr_update.proofs.Slots.{found as at_home_found, emptied_home as still_emptied, home_still as still_at_home, later_none as none_later, made as unseen_made, none_below as none_under, slot_made as made_or_there, still_some}
 use Rattle.adr_table.specs.declared.place.Place.{Place}
 use Rattle.adr_table.specs.Place.{place_of, place_order}
 use Rattle.adr_table.specs.Slots.{seen, AreAtHome, flat}
@@ -61,12 +61,7 @@ home_still = still_at_home place_order IsAt AreAtHome (λ e es at rest. (at, res
 -- ---- a slot emptied
 
 pub emptied_home : (es : Entries) (p : Place) → AreAtHome es → AreAtHome (set_value (is_at (place_order p)) es None)
-emptied_home [] p home = home
-emptied_home (e ∷ es) p home = by (is_at (place_order p) e.0) (emptied_home es p home.1)
-  where
-    by : (b : Bool) → AreAtHome (set_value (is_at (place_order p)) es None) → AreAtHome (cond b ((e.0, None) ∷ es) (e ∷ set_value (is_at (place_order p)) es None))
-    by true later = (tt, home.1)
-    by false later = (home.0, later)
+emptied_home = still_emptied place_order IsAt AreAtHome (λ e es at rest. (at, rest)) (λ e es h. h) (λ p. tt)
 
 -- and where there is none, all stays
 pub none_emptied : (es : Entries) (p : Place) → lookup (is_at (place_order p)) es ≡ None → set_value (is_at (place_order p)) es None ≡ es

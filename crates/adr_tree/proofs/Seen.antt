@@ -16,7 +16,7 @@ use Rattle.adr_model.specs.Update.{Identifier, same_identifier}
 use Rattle.adr_model.specs.Place.{Node, node_at}
 use Rattle.adr_model.proofs.Keys.{equal_order}
 use Rattle.adr_law_tree.specs.InOrder.{AreInOrder}
-use Rattle.adr_update.proofs.Slots.{found as at_home_found, freed, freed_home as still_without, home_still as still_at_home, made, slot_made}
+use Rattle.adr_update.proofs.Slots.{emptied_home as still_emptied, found as at_home_found, freed, freed_home as still_without, home_still as still_at_home, made, slot_made}
 use Rattle.adr_tree.specs.Slots.{seen, AreAtHome, flat}
 
 abbrev pub Slots : Type 0
@@ -84,12 +84,7 @@ emptied_seen (e ∷ es) g none = by (is_at (identifier_order g) e.0) none (empti
     by false n later = ap (λ ns. cons_option e.1 ns) (later n)
 
 pub emptied_home : (es : Slots) (g : Identifier) → AreAtHome es → AreAtHome (set_value (is_at (identifier_order g)) es None)
-emptied_home [] g home = home
-emptied_home (e ∷ es) g home = by (is_at (identifier_order g) e.0) (emptied_home es g home.1)
-  where
-    by : (b : Bool) → AreAtHome (set_value (is_at (identifier_order g)) es None) → AreAtHome (cond b ((e.0, None) ∷ es) (e ∷ set_value (is_at (identifier_order g)) es None))
-    by true h = (tt, home.1)
-    by false h = (home.0, h)
+emptied_home = still_emptied identifier_order IsAt AreAtHome (λ e es at rest. (at, rest)) (λ e es h. h) (λ g. tt)
 
 -- an empty slot holds nothing still
 pub none_still : (f : Identifier → Option (Option Node)) (g h : Identifier) → f g ≡ None → flat (f h) ≡ cond (same_identifier g h) None (flat (f h))

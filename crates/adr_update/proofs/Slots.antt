@@ -2,7 +2,7 @@
 use Rattle.std.proofs.Common.{◌≡◌, List, [], ◌∷◌, Bool, true, false, cond, Option, Some, None, refl, sym, ap, ◌∙◌, subst}
 use Rattle.std.specs.Prelude.{IsSome, unwrap_or}
 use Rattle.std.specs.List.Sorted.{IsStrictlySortedBy}
-use Rattle.std.specs.Map.{keys_of, lookup, remove_entry}
+use Rattle.std.specs.Map.{keys_of, lookup, remove_entry, set_value}
 use Rattle.std.specs.BTreeMap.{insert_entry, is_at}
 use Rattle.std.specs.Cmp.{IsTotalOrder}
 use Rattle.std.specs.Ordering.{is_eq, match_ordering}
@@ -100,6 +100,14 @@ module _ {K X : Type 0} (order : K → K → Ordering) (At : K → Option X → 
         by : (b : Bool) → Home (remove_entry (is_at (order k)) es) → Home (cond b es (e ∷ remove_entry (is_at (order k)) es))
         by true rest = (parts e es home).1
         by false rest = both e (remove_entry (is_at (order k)) es) (parts e es home).0 rest
+
+    pub emptied_home : ((k : K) → At k None) → (es : List (K × Option X)) (k : K) → Home es → Home (set_value (is_at (order k)) es None)
+    emptied_home none [] k home = home
+    emptied_home none (e ∷ es) k home = by (is_at (order k) e.0) (emptied_home none es k (parts e es home).1)
+      where
+        by : (b : Bool) → Home (set_value (is_at (order k)) es None) → Home (cond b ((e.0, None) ∷ es) (e ∷ set_value (is_at (order k)) es None))
+        by true rest = both (e.0, None) es (none e.0) (parts e es home).1
+        by false rest = both e (set_value (is_at (order k)) es None) (parts e es home).0 rest
 
     -- a search that knows what is at home by its key finds what is in the slot of the key
     module _ (total : IsTotalOrder order) (flat : Option (Option X) → Option X) (flat_none : flat None ≡ None) (flat_some : (o : Option X) → flat (Some o) ≡ o)

@@ -1,9 +1,8 @@
 //! What the rows of a GUID tell of themselves.
 
-ghost use Rattle.std.specs.Prelude.{◌≡◌, ◌++◌, ◌∷◌, [], IfOk, OnOk, flat_map};
+ghost use Rattle.std.specs.Prelude.{◌≡◌, ◌++◌, IfOk, OnOk, flat_map};
 ghost use Rattle.std.specs.Option.{option_copied};
-ghost use Rattle.adr_model.specs.Meta.{deleted_name, life_beside, life_of, meta, object_line, text_said, text_written, told};
-ghost use Rattle.adr_model.specs.Place.{node_at};
+ghost use Rattle.adr_model.specs.Meta.{deleted_name, life_of, meta, object_line, text_said, text_written, told};
 ghost use Rattle.adr_model.specs.Store.{updates_of};
 ghost use Rattle.adr_model.specs.Write.{nodes_held};
 ghost use Rattle.adr_update.specs.Referents.{referents};
@@ -57,26 +56,6 @@ fn text_written(alloc: Global, rows: &Rows, object: &Oid) -> Result<Text, NoMemo
     }
 }
 
-/// How an object that isn't dead is held, and its name.
-fn life_beside<'a>(
-    alloc: Global,
-    rows: &'a Rows,
-    names: &Names<'a>,
-    object: &Oid,
-) -> Result<(Life, Text), NoMemory>
-    requires { AreYoungest (nodes_held (updates_of rows.now)) names.now.map }
-    ensures { IfOk result (λ life. let all = nodes_held (updates_of rows.now) in
-        life ≡ life_beside all (node_at all object.now.guid) object.now (text_written rows.now object.now)) }
-{
-    if let Some(node) = rows.node(object.guid) {
-        if is_same_object(&node.object(), object) {
-            let name = shown_name(alloc, names, rows.place(node), node)?;
-            return Ok((Life::Live, name));
-        }
-    }
-    Ok((Life::Hidden, text_written(alloc, rows, object)?))
-}
-
 /// How an object is held, and its name.
 fn life_of<'a>(
     alloc: Global,
@@ -87,32 +66,35 @@ fn life_of<'a>(
     requires { AreYoungest (nodes_held (updates_of rows.now)) names.now.map }
     ensures { IfOk result (λ life. life ≡ life_of rows.now object.now) }
 {
-    if rows.row(Key::deleted(object)).is_none() {
-        return life_beside(alloc, rows, names, object);
+    if rows.row(Key::deleted(object)).is_some() {
+        let text = text_written(alloc, rows, object)?;
+        return Ok((Life::Dead, deleted_name(alloc, &text, object.guid)?));
     }
-    let text = text_written(alloc, rows, object)?;
-    Ok((Life::Dead, deleted_name(alloc, &text, object.guid)?))
+    if let Some(node) = rows.node(object.guid) {
+        if is_same_object(&node.object(), object) {
+            let name = shown_name(alloc, names, rows.place(node), node)?;
+            return Ok((Life::Live, name));
+        }
+    }
+    Ok((Life::Hidden, text_written(alloc, rows, object)?))
 }
 
-/// Adds the line of an object.
-fn push_object<'a>(
+/// The line of an object.
+fn object_line<'a>(
     alloc: Global,
     rows: &'a Rows,
     names: &Names<'a>,
     object: &Oid,
-    lines: &mut Vec<MetaLine>,
-) -> Result<(), NoMemory>
+) -> Result<MetaLine, NoMemory>
     requires { AreYoungest (nodes_held (updates_of rows.now)) names.now.map }
-    ensures { OnOk result (lines.new.items
-        ≡ lines.old.items ++ object_line object.now (life_of rows.now object.now) ∷ []) }
+    ensures { IfOk result (λ line. line ≡ object_line object.now (life_of rows.now object.now)) }
 {
     let (life, name) = life_of(alloc, rows, names, object)?;
-    lines.push(MetaLine::Object {
+    Ok(MetaLine::Object {
         birth: object.birth,
         life,
         name,
-    })?;
-    Ok(())
+    })
 }
 
 /// Adds the line of a row, behind that of its object where it is the object's first.
@@ -130,7 +112,7 @@ fn push_row<'a>(
     match row.key() {
         Key::Row { object, attr } => {
             if attr == CLASS {
-                push_object(alloc, rows, names, &object, lines)?;
+                lines.push(object_line(alloc, rows, names, &object)?)?;
             }
             lines.push(MetaLine::Row {
                 attr,

@@ -70,8 +70,12 @@ bytes_spelled n = record {
 
 -- ---- what is read, as another value
 
+-- a value that is made of one in range, and spelled as that one
+abbrev pub MadeOf : {A B : Type 0} (P : A → Type 0) (s : A → List ℕ) (f : A → B) (t : B → List ℕ) → B → Type 0
+MadeOf {A} P s f t y = (x : A) × (y ≡ f x) × P x × (t y ≡ s x)
+
 pub made : {A B : Type 0} (P : A → Type 0) (s : A → List ℕ) (a : Reading A) → IsSpelling P s a → (f : A → B) (Q : B → Type 0) (t : B → List ℕ)
-    → ((y : B) → Q y → (x : A) × (y ≡ f x) × P x × (t y ≡ s x))
+    → ((y : B) → Q y → MadeOf P s f t y)
     → ((x : A) → P x → AreBytes (s x) → Q (f x) × (t (f x) ≡ s x))
     → IsSpelling Q t (as_at f a)
 made {A} {B} P s a law f Q t out into = record {

@@ -1,6 +1,6 @@
 -- Each composite is spelled in one way.
-use Rattle.std.proofs.Common.{◌≡◌, ℕ, ◌≤◌, Bool, true, false, leb, eqb, List, [], ◌∷◌, ◌++◌, length, Option, Some, None, Ok, refl, sym, ap, subst, arith}
-use Rattle.std.specs.Prelude.{ℤ}
+use Rattle.std.proofs.Common.{◌≡◌, ℕ, ◌≤◌, true, false, leb, eqb, List, [], ◌∷◌, ◌++◌, length, Option, Some, None, Ok, refl, sym, ap, subst, ◌∙◌, arith}
+use Rattle.std.specs.Prelude.{MatchBool}
 use Rattle.std.specs.List.{flat_map, AllByRecursion}
 use Rattle.std.specs.Ordering.{nat_cmp}
 use Rattle.std.proofs.lemmas.Bool.{eqb-true, leb-true, le-leb}
@@ -13,7 +13,7 @@ use Rattle.adr_wire.specs.Fields.{u8_at, u16_at, u64_at, i64_at, id_at, flag_at,
 use Rattle.adr_wire.specs.Composites.{mark_at, mark, is_ordered, ordered_mark_at, oid_at, oid, stamp_at, stamp, value_of, value_at, kind_of, told, value, one_key, values_at, content_at, content, Row, row_of, row_above, row_at, row, rows_at, object_at, object, link_key_at, link_key, link_stamp_at, link_stamp, link_at, link}
 use Rattle.adr_wire.specs.Spelling.{IsSpelling}
 use Rattle.adr_wire.specs.Ranges.{IsU8, IsU16, IsU64, IsI64, IsId, IsFlag, IsUsn, IsUsn0, IsVersion, IsOctets, IsText, IsMark, IsOrderedMark, IsOid, IsStamp, IsValue, IsContent, IsRow, InTurn, IsRowAbove, RowsRise, IsObject, IsLink}
-use Rattle.adr_wire.proofs.Combining.{made, in_range_too, passed, both, pair, followed, either, never, nothing, elements_spelled, counted}
+use Rattle.adr_wire.proofs.Combining.{MadeOf, made, in_range_too, passed, both, pair, followed, either, never, nothing, elements_spelled, counted}
 use Rattle.adr_wire.proofs.FieldLaws.{u8_spelled, u16_spelled, u64_spelled, i64_spelled, id_spelled, flag_spelled, usn_spelled, usn0_spelled, version_spelled, octets_spelled, text_spelled}
 
 -- ---- marks, names and stamps
@@ -55,62 +55,43 @@ kinded kind_of P told read small laws =
 
 -- ---- values
 
+-- what a value of a kind says
+abbrev Says : ℕ → Item → Type 0
+Says kind v =
+    MatchBool (eqb kind 1) (MadeOf IsText text Text told v)
+    (MatchBool (eqb kind 2) (MadeOf IsI64 i64 Number told v)
+    (MatchBool (eqb kind 3) (MadeOf IsFlag flag Flag told v)
+    (MatchBool (eqb kind 4) (MadeOf IsOctets octets Octets told v)
+    (MatchBool (eqb kind 5) (MadeOf IsId id Ref told v) ⊥))))
+
+says : (v : Item) → IsValue v → Says (kind_of v) v
+says (Text t) q = (t, refl, q, refl)
+says (Number n) q = (n, refl, q, refl)
+says (Flag b) q = (b, refl, tt, refl)
+says (Octets o) q = (o, refl, q, refl)
+says (Ref guid) q = (guid, refl, q, refl)
+
 module _ (place kind : ℕ) where
   abbrev OfKind : Item → Type 0
   OfKind v = IsValue v × (kind_of v ≡ kind)
 
+  out : (k : ℕ) → kind ≡ k → (v : Item) → OfKind v → Says k v
+  out k e v q = subst (λ (n : ℕ). Says n v) (q.1 ∙ e) (says v q.0)
+
   of_text : kind ≡ 1 → IsSpelling OfKind told (as_at Text text_at)
-  of_text e = made IsText text text_at text_spelled Text OfKind told out (λ t p fits. ((p, sym e), refl))
-    where
-      out : (v : Item) → OfKind v → (t : List ℕ) × (v ≡ Text t) × IsText t × (told v ≡ text t)
-      out (Text t) q = (t, refl, q.0, refl)
-      out (Number n) q = absurd (let k = q.1 in omega arith)
-      out (Flag b) q = absurd (let k = q.1 in omega arith)
-      out (Octets o) q = absurd (let k = q.1 in omega arith)
-      out (Ref guid) q = absurd (let k = q.1 in omega arith)
+  of_text e = made IsText text text_at text_spelled Text OfKind told (out 1 e) (λ t p fits. ((p, sym e), refl))
 
   of_number : kind ≡ 2 → IsSpelling OfKind told (as_at Number i64_at)
-  of_number e = made IsI64 i64 i64_at i64_spelled Number OfKind told out (λ n p fits. ((p, sym e), refl))
-    where
-      out : (v : Item) → OfKind v → (n : ℤ) × (v ≡ Number n) × IsI64 n × (told v ≡ i64 n)
-      out (Text t) q = absurd (let k = q.1 in omega arith)
-      out (Number n) q = (n, refl, q.0, refl)
-      out (Flag b) q = absurd (let k = q.1 in omega arith)
-      out (Octets o) q = absurd (let k = q.1 in omega arith)
-      out (Ref guid) q = absurd (let k = q.1 in omega arith)
+  of_number e = made IsI64 i64 i64_at i64_spelled Number OfKind told (out 2 e) (λ n p fits. ((p, sym e), refl))
 
   of_flag : kind ≡ 3 → IsSpelling OfKind told (as_at Flag flag_at)
-  of_flag e = made IsFlag flag flag_at flag_spelled Flag OfKind told out (λ b p fits. ((tt, sym e), refl))
-    where
-      out : (v : Item) → OfKind v → (b : Bool) × (v ≡ Flag b) × IsFlag b × (told v ≡ flag b)
-      out (Text t) q = absurd (let k = q.1 in omega arith)
-      out (Number n) q = absurd (let k = q.1 in omega arith)
-      out (Flag b) q = (b, refl, tt, refl)
-      out (Octets o) q = absurd (let k = q.1 in omega arith)
-      out (Ref guid) q = absurd (let k = q.1 in omega arith)
+  of_flag e = made IsFlag flag flag_at flag_spelled Flag OfKind told (out 3 e) (λ b p fits. ((tt, sym e), refl))
 
   of_octets : kind ≡ 4 → IsSpelling OfKind told (as_at Octets octets_at)
-  of_octets e = made IsOctets octets octets_at octets_spelled Octets OfKind told out (λ o p fits. ((p, sym e), refl))
-    where
-      out : (v : Item) → OfKind v → (o : List ℕ) × (v ≡ Octets o) × IsOctets o × (told v ≡ octets o)
-      out (Text t) q = absurd (let k = q.1 in omega arith)
-      out (Number n) q = absurd (let k = q.1 in omega arith)
-      out (Flag b) q = absurd (let k = q.1 in omega arith)
-      out (Octets o) q = (o, refl, q.0, refl)
-      out (Ref guid) q = absurd (let k = q.1 in omega arith)
+  of_octets e = made IsOctets octets octets_at octets_spelled Octets OfKind told (out 4 e) (λ o p fits. ((p, sym e), refl))
 
   of_ref : kind ≡ 5 → IsSpelling OfKind told (as_at Ref id_at)
-  of_ref e = made IsId id id_at id_spelled Ref OfKind told out (λ guid p fits. ((p, sym e), refl))
-    where
-      out : (v : Item) → OfKind v → (guid : List ℕ) × (v ≡ Ref guid) × IsId guid × (told v ≡ id guid)
-      out (Text t) q = absurd (let k = q.1 in omega arith)
-      out (Number n) q = absurd (let k = q.1 in omega arith)
-      out (Flag b) q = absurd (let k = q.1 in omega arith)
-      out (Octets o) q = absurd (let k = q.1 in omega arith)
-      out (Ref guid) q = (guid, refl, q.0, refl)
-
-  clash : (k : ℕ) → k ≡ kind → eqb kind k ≡ false → eqb k k ≡ true → ⊥
-  clash k e f t = let g = ap (λ (n : ℕ). eqb n k) e in cc
+  of_ref e = made IsId id id_at id_spelled Ref OfKind told (out 5 e) (λ guid p fits. ((p, sym e), refl))
 
   of_kind : IsSpelling OfKind told (value_of place kind)
   of_kind =
@@ -118,14 +99,8 @@ module _ (place kind : ℕ) where
       either OfKind told (eqb kind 2) _ _ (λ e. of_number (eqb-true kind 2 e)) (λ n2.
       either OfKind told (eqb kind 3) _ _ (λ e. of_flag (eqb-true kind 3 e)) (λ n3.
       either OfKind told (eqb kind 4) _ _ (λ e. of_octets (eqb-true kind 4 e)) (λ n4.
-      either OfKind told (eqb kind 5) _ _ (λ e. of_ref (eqb-true kind 5 e)) (λ n5. never OfKind told place (none n1 n2 n3 n4 n5))))))
-    where
-      none : eqb kind 1 ≡ false → eqb kind 2 ≡ false → eqb kind 3 ≡ false → eqb kind 4 ≡ false → eqb kind 5 ≡ false → (v : Item) → OfKind v → ⊥
-      none n1 n2 n3 n4 n5 (Text t) q = clash 1 q.1 n1 refl
-      none n1 n2 n3 n4 n5 (Number n) q = clash 2 q.1 n2 refl
-      none n1 n2 n3 n4 n5 (Flag b) q = clash 3 q.1 n3 refl
-      none n1 n2 n3 n4 n5 (Octets o) q = clash 4 q.1 n4 refl
-      none n1 n2 n3 n4 n5 (Ref guid) q = clash 5 q.1 n5 refl
+      either OfKind told (eqb kind 5) _ _ (λ e. of_ref (eqb-true kind 5 e)) (λ n5.
+      never OfKind told place (λ v q. rw (n1, n2, n3, n4, n5) at (out kind refl v q)))))))
 
 small : (v : Item) → IsU8 (kind_of v)
 small (Text t) = omega arith

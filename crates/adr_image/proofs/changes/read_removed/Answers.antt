@@ -2,7 +2,7 @@ use Rattle.std.proofs.Common.{None}
 use Rattle.std.proofs.lemmas.Result.{err_from_is_err_and}
 use Rattle.adr_wire.specs.Composites.{oid_at}
 use Rattle.adr_wire.specs.Reading.{keyed}
-use Rattle.adr_wire.proofs.Loops.{goes_on_alike, ends, is_done, names_refuses}
+use Rattle.adr_wire.proofs.Loops.{goes_on_alike, ends, names_refuses}
 use Rattle.adr_image.specs.Body.{one_name, removed_at}
 use Rattle.adr_image.proofs.Changing.{removed_begin}
 use Rattle.adr_image.proofs.changes.read_removed.Goals as goal
@@ -22,8 +22,3 @@ loop-preserved c =
     rw c.in_ok-push.ensures.items
     (goes_on_alike one_name oid_at c.loop.removed.items c.in_ok-count.count c.loop.counter c.loop.reader (removed_at c.args.reader.now)
     c.in_ok-object.object c.read_oid.new.self c.loop-test.true c.in_ok-object.ensures c.loop.invariant)
-
-pub returns : goal.returns
-returns c =
-    is_done (keyed one_name) (λ _. oid_at) c.loop.removed.items c.in_ok-count.count c.loop.counter None c.loop.reader (removed_at c.args.reader.now)
-    c.loop-test.false c.loop.invariant

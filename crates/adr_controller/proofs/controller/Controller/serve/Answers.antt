@@ -18,13 +18,13 @@ returns-in_err-state-clause-calls g c = λ now.
     let p = err_from_is_err_and c.from_residual.result c.from_residual.ensures.1 in
     not_running g.K.Keeper (served_in c.args.request.now now) c.args.self.now h c.in_err-state.ensures.err _ (hindered_so h c.from_residual.result p.0 p.1 p.2)
 
-pub refuse_request-requires-clause-follows : goal.refuse_request-requires-clause-follows
-refuse_request-requires-clause-follows g c = λ x is shows.
+pub refuse-requires-clause-follows : goal.refuse-requires-clause-follows
+refuse-requires-clause-follows g c = λ x is shows.
     let was = c.in_ok-state.ensures.ok in
     let s = c.in_ok-state.state.now in
     let refused : serve s c.args.request.now 0 ≡ Err c.in-Err-Refused.refusal = (c.serve.ensures.refused c.in-Err-Refused.refusal 0).0 (c.in-Err-Refused.is ∙ ap Err c.in-Err-Refused.field-0-is) in
     subst (λ y. CanCommit g.K.Keeper y (quarantine y)) (some_is s x (sym was.0 ∙ is))
-    (c.requires.follows 0 s (quarantine s) was.2 (ap (change_of_served s) refused ∙ ap (λ asked. then_some asked (quarantine s)) shows))
+    (c.requires.follows 0 s (quarantine s) was.2 (ap (change_of_served s) refused ∙ ap (λ asked. then_some asked (quarantine s)) (sym c.request_shows-put_back.ensures ∙ shows)))
 
 pub returns-in-Ok-clause-calls : goal.returns-in-Ok-clause-calls
 returns-in-Ok-clause-calls g c = λ now.
@@ -43,7 +43,7 @@ returns-in-Err-Refused-clause-refused g c = λ x refusal now is e.
     let s = c.in_ok-state.state.now in
     let refused : serve s c.args.request.now now ≡ Err c.in-Err-Refused.refusal = (c.serve.ensures.refused c.in-Err-Refused.refusal now).0 (c.in-Err-Refused.is ∙ ap Err c.in-Err-Refused.field-0-is) in
     subst (λ y. serve y c.args.request.now now ≡ Err refusal) (some_is s x (sym was.0 ∙ is))
-    (refused ∙ ap Err (sym (c.refuse_request.ensures.refused refusal (err_same c.refuse_request.result _ _ refl e))))
+    (refused ∙ ap Err (sym (c.refuse.ensures.refused refusal (err_same c.refuse.result _ _ refl e))))
 
 pub returns-in-Err-Refused-clause-calls : goal.returns-in-Err-Refused-clause-calls
 returns-in-Err-Refused-clause-calls g c = λ now.
@@ -51,9 +51,9 @@ returns-in-Err-Refused-clause-calls g c = λ now.
     let s = c.in_ok-state.state.now in
     let r = c.in-Err-Refused.refusal in
     let refused : serve s c.args.request.now now ≡ Err r = (c.serve.ensures.refused c.in-Err-Refused.refusal now).0 (c.in-Err-Refused.is ∙ ap Err c.in-Err-Refused.field-0-is) in
-    as_made g.K.Keeper (λ y. then_some (request_shows r) (quarantine y)) (served_in c.args.request.now now) c.args.self.now c.refuse_request.new.self _
-    (λ x is. subst (λ y. then_some (request_shows r) (quarantine y) ≡ served_in c.args.request.now now y) (some_is s x (sym was.0 ∙ is)) (sym (ap (change_of_served s) refused)))
-    c.refuse_request.ensures.calls
+    as_made g.K.Keeper (λ y. then_some c.request_shows-put_back.result (quarantine y)) (served_in c.args.request.now now) c.args.self.now c.refuse.new.self _
+    (λ x is. ap (λ asked. then_some asked (quarantine x)) c.request_shows-put_back.ensures ∙ subst (λ y. then_some (request_shows r) (quarantine y) ≡ served_in c.args.request.now now y) (some_is s x (sym was.0 ∙ is)) (sym (ap (change_of_served s) refused)))
+    c.refuse.ensures.calls
 
 pub returns-in_err-state-clause-exact : goal.returns-in_err-state-clause-exact
 returns-in_err-state-clause-exact g c = λ x refusal now is shows refuses. absurd (⊎_elim (λ d. let no : ⊥ = cc (is, d.2) in no) (λ f. let no : ⊥ = cc (is, f.2) in no) c.in_err-state.ensures.err)
@@ -80,11 +80,11 @@ returns-in-Err-Refused-clause-exact g c = λ x refusal now is shows refuses.
     let refused : serve s c.args.request.now now ≡ Err r = (c.serve.ensures.refused r now).0 (c.in-Err-Refused.is ∙ ap Err c.in-Err-Refused.field-0-is) in
     let here = subst (λ y. serve y c.args.request.now now ≡ Err refusal) (some_is x s (sym is ∙ c.in_ok-state.ensures.ok.0)) refuses in
     let same : r ≡ refusal = err_same r refusal _ refused here in
-    ap Err (c.refuse_request.ensures.unshown (ap request_shows same ∙ shows) ∙ ap Refused same)
+    ap Err (c.refuse.ensures.unshown (c.request_shows-put_back.ensures ∙ ap request_shows same ∙ shows) ∙ ap Refused same)
 
 pub returns-in-Err-Refused-clause-put_back : goal.returns-in-Err-Refused-clause-put_back
 returns-in-Err-Refused-clause-put_back g c = λ x refusal is e shows.
     let r = c.in-Err-Refused.refusal in
-    let told = err_same c.refuse_request.result (Refused refusal) _ refl e in
-    let shown = ap request_shows (sym (c.refuse_request.ensures.refused refusal told)) ∙ shows in
-    (c.refuse_request.ensures.calls.commits x (quarantine x) is (ap (λ asked. then_some asked (quarantine x)) shown)).done (ap hindrance_in told)
+    let told = err_same c.refuse.result (Refused refusal) _ refl e in
+    let shown = c.request_shows-put_back.ensures ∙ ap request_shows (sym (c.refuse.ensures.refused refusal told)) ∙ shows in
+    (c.refuse.ensures.calls.commits x (quarantine x) is (ap (λ asked. then_some asked (quarantine x)) shown)).done (ap hindrance_in told)

@@ -46,13 +46,13 @@ returns-in-Ok-clause-calls g c =
     c.conclude.ensures.calls (taken_in c.args.reply.now)
     (record { state = s; in_memory = c.in_ok-state.ensures.ok.0; makes = ap (change_of_taken s) c.in-Ok.ensures.ok; in_order = c.running.ensures.in_order })
 
-pub refuse_reply-requires-clause-follows : goal.refuse_reply-requires-clause-follows
-refuse_reply-requires-clause-follows g c = λ x is shows.
+pub refuse-requires-clause-follows : goal.refuse-requires-clause-follows
+refuse-requires-clause-follows g c = λ x is shows.
     let was = c.in_ok-state.ensures.ok in
     let s = c.in_ok-state.state.now in
     let refused : take s c.args.reply.now ≡ Err c.in-Err-Refused.refusal = c.take.ensures.refused c.in-Err-Refused.refusal (c.in-Err-Refused.is ∙ ap Err c.in-Err-Refused.field-0-is) in
     subst (λ y. CanCommit g.K.Keeper y (quarantine y)) (some_is s x (sym was.0 ∙ is))
-    (c.requires.follows s (quarantine s) was.2 (ap (change_of_taken s) refused ∙ ap (λ asked. then_some asked (quarantine s)) shows))
+    (c.requires.follows s (quarantine s) was.2 (ap (change_of_taken s) refused ∙ ap (λ asked. then_some asked (quarantine s)) (sym c.reply_shows-put_back.ensures ∙ shows)))
 
 pub returns-in-Err-NoMemory-clause-calls : goal.returns-in-Err-NoMemory-clause-calls
 returns-in-Err-NoMemory-clause-calls g c =
@@ -65,7 +65,7 @@ returns-in-Err-Refused-clause-refused g c = λ x refusal is e.
     let s = c.in_ok-state.state.now in
     let refused : take s c.args.reply.now ≡ Err c.in-Err-Refused.refusal = c.take.ensures.refused c.in-Err-Refused.refusal (c.in-Err-Refused.is ∙ ap Err c.in-Err-Refused.field-0-is) in
     subst (λ y. take y c.args.reply.now ≡ Err refusal) (some_is s x (sym was.0 ∙ is))
-    (refused ∙ ap Err (sym (c.refuse_reply.ensures.refused refusal (err_same c.refuse_reply.result _ _ refl e))))
+    (refused ∙ ap Err (sym (c.refuse.ensures.refused refusal (err_same c.refuse.result _ _ refl e))))
 
 pub returns-in-Err-Refused-clause-calls : goal.returns-in-Err-Refused-clause-calls
 returns-in-Err-Refused-clause-calls g c =
@@ -73,9 +73,9 @@ returns-in-Err-Refused-clause-calls g c =
     let s = c.in_ok-state.state.now in
     let r = c.in-Err-Refused.refusal in
     let refused : take s c.args.reply.now ≡ Err r = c.take.ensures.refused c.in-Err-Refused.refusal (c.in-Err-Refused.is ∙ ap Err c.in-Err-Refused.field-0-is) in
-    as_made g.K.Keeper (λ y. then_some (reply_shows r) (quarantine y)) (taken_in c.args.reply.now) c.args.self.now c.refuse_reply.new.self _
-    (λ x is. subst (λ y. then_some (reply_shows r) (quarantine y) ≡ taken_in c.args.reply.now y) (some_is s x (sym was.0 ∙ is)) (sym (ap (change_of_taken s) refused)))
-    c.refuse_reply.ensures.calls
+    as_made g.K.Keeper (λ y. then_some c.reply_shows-put_back.result (quarantine y)) (taken_in c.args.reply.now) c.args.self.now c.refuse.new.self _
+    (λ x is. ap (λ asked. then_some asked (quarantine x)) c.reply_shows-put_back.ensures ∙ subst (λ y. then_some (reply_shows r) (quarantine y) ≡ taken_in c.args.reply.now y) (some_is s x (sym was.0 ∙ is)) (sym (ap (change_of_taken s) refused)))
+    c.refuse.ensures.calls
 
 pub returns-in_err-state-clause-before : goal.returns-in_err-state-clause-before
 returns-in_err-state-clause-before g c = λ x refusal is shows first. absurd (⊎_elim (λ d. let no : ⊥ = cc (is, d.2) in no) (λ f. let no : ⊥ = cc (is, f.2) in no) c.in_err-state.ensures.err)
@@ -104,10 +104,10 @@ returns-in-Err-Refused-clause-before g c = λ x refusal is shows first.
     let r = c.in-Err-Refused.refusal in
     let here = subst (λ y. refusal_before y c.args.reply.now ≡ Some refusal) (some_is x s (sym is ∙ c.in_ok-state.ensures.ok.0)) first in
     let same : r ≡ refusal = cc (c.take.ensures.before refusal here, c.in-Err-Refused.is, c.in-Err-Refused.field-0-is) in
-    ap Err (c.refuse_reply.ensures.unshown (ap reply_shows same ∙ shows) ∙ ap Refused same)
+    ap Err (c.refuse.ensures.unshown (c.reply_shows-put_back.ensures ∙ ap reply_shows same ∙ shows) ∙ ap Refused same)
 
 pub returns-in-Err-Refused-clause-put_back : goal.returns-in-Err-Refused-clause-put_back
 returns-in-Err-Refused-clause-put_back g c = λ x refusal is e shows.
-    let told = err_same c.refuse_reply.result (Refused refusal) _ refl e in
-    let shown = ap reply_shows (sym (c.refuse_reply.ensures.refused refusal told)) ∙ shows in
-    (c.refuse_reply.ensures.calls.commits x (quarantine x) is (ap (λ asked. then_some asked (quarantine x)) shown)).done (ap hindrance_in told)
+    let told = err_same c.refuse.result (Refused refusal) _ refl e in
+    let shown = c.reply_shows-put_back.ensures ∙ ap reply_shows (sym (c.refuse.ensures.refused refusal told)) ∙ shows in
+    (c.refuse.ensures.calls.commits x (quarantine x) is (ap (λ asked. then_some asked (quarantine x)) shown)).done (ap hindrance_in told)

@@ -6,6 +6,7 @@ use Rattle.adr_model.specs.Change.{Change, after, held_of, rows_after, with_mark
 use Rattle.adr_model.specs.Store.{Held, PartnerMark, Mode, State}
 use Rattle.adr_state.specs.contracts.state.State.{the_view}
 use Rattle.adr_state.proofs.state.State.apply.Goals as goal
+use Rattle.adr_state.proofs.state.State.apply.Goals.{After-renew_seen}
 
 -- what is made anew is what else is kept
 either : {X : Type 0} (o : Option X) (x : X) → IfSome o (λ v. v ≡ x) → unwrap_or o x ≡ x
@@ -21,22 +22,25 @@ few : (vector purged : Cursors) → length vector ≤ cursor_limit → length pu
 few vector purged v p (inl over) = omega (arith, over, v)
 few vector purged v p (inr over) = omega (arith, over, p)
 
+-- the vector of what was seen is renewed
+vector : (c : After-renew_seen) → c.renew_seen.new.vector ≡ raised (joined c.self.inside.vector c.args.change.joined) c.self.inside.inv c.args.change.usn
+vector c =
+    let change = c.args.change in
+    let old = c.self.inside in
+    c.renew_seen.ensures ∙ ap (λ (x : Change). unwrap_or c.in_ok-vector.vector (raised (joined old.vector x.joined) old.inv x.usn)) c.take_held.ensures.rest
+    ∙ either c.in_ok-vector.vector _ (subst (λ (s : State). IfSome c.in_ok-vector.vector (λ seen. seen ≡ (after s change).store.vector)) (sym c.self.view_is) c.in_ok-vector.ensures.new)
+
 pub returns-clause-room : goal.returns-clause-room
 returns-clause-room c =
     let change = c.args.change in
-    let old = c.self.inside in
-    let vector : c.renew_seen.new.vector ≡ raised (joined old.vector change.joined) old.inv change.usn =
-    c.renew_seen.ensures ∙ ap (λ (x : Change). unwrap_or c.in_ok-vector.vector (raised (joined old.vector x.joined) old.inv x.usn)) c.take_held.ensures.rest ∙ either c.in_ok-vector.vector _ (subst (λ (s : State). IfSome c.in_ok-vector.vector (λ seen. seen ≡ (after s change).store.vector)) (sym c.self.view_is) c.in_ok-vector.ensures.new) in
     rw (← c.self.view_is)
-    (few _ _ (subst (λ (v : Cursors). length v ≤ cursor_limit) vector c.are_few.ensures)
+    (few _ _ (subst (λ (v : Cursors). length v ≤ cursor_limit) (vector (goal.at.returns-clause-room c).After-renew_seen) c.are_few.ensures)
     (subst (λ (s : State). length (after s change).store.purged ≤ cursor_limit) (sym c.self.view_is) c.in_ok-purged.ensures.few))
 
 pub returns-clause-ok : goal.returns-clause-ok
 returns-clause-ok c =
     let change = c.args.change in
     let old = c.self.inside in
-    let vector : c.renew_seen.new.vector ≡ raised (joined old.vector change.joined) old.inv change.usn =
-    c.renew_seen.ensures ∙ ap (λ (x : Change). unwrap_or c.in_ok-vector.vector (raised (joined old.vector x.joined) old.inv x.usn)) c.take_held.ensures.rest ∙ either c.in_ok-vector.vector _ (subst (λ (s : State). IfSome c.in_ok-vector.vector (λ seen. seen ≡ (after s change).store.vector)) (sym c.self.view_is) c.in_ok-vector.ensures.new) in
     let rest = c.take_held.ensures.rest in
     let purged : c.renew.new.vector ≡ joined old.purged change.purged =
     c.renew.ensures ∙ subst (λ (s : State). unwrap_or c.in_ok-purged.purged s.store.purged ≡ (after s change).store.purged) (sym c.self.view_is) c.in_ok-purged.ensures.ok in
@@ -46,5 +50,6 @@ returns-clause-ok c =
     ∙ either c.in_ok-marks.marks _ (subst (λ m. IfSome c.in_ok-marks.marks (λ w. w ≡ with_mark m old.marks)) c.mark.ensures c.in_ok-marks.ensures.new) in
     let rows : c.write.new.self ≡ rows_after change.removed (held_of change.writes) old.rows =
     c.in_ok-write.ensures.ok ∙ ap (λ os. rows_after os c.in_ok-rows.rows.items old.rows) (c.removed.ensures ∙ ap (λ (x : Change). x.removed) rest) ∙ ap (λ hs. rows_after change.removed hs old.rows) c.in_ok-rows.ensures.rows in
-    rw (← c.self.view_is) (state_is (the_view old) change _ _ _ _ _ _ _ _ (c.mode-self-inside.ensures ∙ ap (λ (x : Change). x.mode) rest) (c.schema-self-inside.ensures.number ∙ ap (λ (x : Change). x.schema) rest) (c.usn-self-inside.ensures ∙ ap (λ (x : Change). x.usn) rest) rows vector
+    rw (← c.self.view_is) (state_is (the_view old) change _ _ _ _ _ _ _ _ (c.mode-self-inside.ensures ∙ ap (λ (x : Change). x.mode) rest) (c.schema-self-inside.ensures.number ∙ ap (λ (x : Change). x.schema) rest) (c.usn-self-inside.ensures ∙ ap (λ (x : Change). x.usn) rest) rows
+    (vector (goal.at.returns-clause-ok c).After-renew_seen)
     (sym (ap (joined []) (sym (ap (λ (x : Change). x.times) rest) ∙ c.joins_no_times.ensures))) purged marks)

@@ -5,7 +5,7 @@ use Rattle.adr_model.specs.Store.{updates_of}
 use Rattle.adr_model.specs.Update.{same_object}
 use Rattle.adr_model.specs.Write.{nodes_held}
 use Rattle.adr_model.proofs.Keys.{objects_tell}
-use Rattle.adr_view.proofs.meta.life_beside.Goals as goal
+use Rattle.adr_view.proofs.meta.life_of.Goals as goal
 
 pub place-requires : goal.place-requires
 place-requires c =
