@@ -1,60 +1,16 @@
-//! A source and a sink in memory, which tell all that they hold and can be told to fail at a call. It stands on
-//! adr_io, and doesn't know what the bytes mean.
+//! A source and a sink in memory, which tell all that they hold and can be told to fail at a call, and the plan of that.
+//! It stands on adr_io, and doesn't know what the bytes mean.
 #![tactic(auto)]
 
-ghost use Rattle.std.specs.Prelude.{◌≡◌, ◌↔◌, ⊤, ◌+◌, ◌-◌, ◌^◌, ◌≤◌, ◌<◌, ◌++◌, [], Option, Some, None, IsTrue, IsErr, IfOk, OnOk, OnErr, IsErrOf, length, take, drop, min};
+ghost use Rattle.std.specs.Prelude.{◌≡◌, ◌↔◌, ⊤, ◌+◌, ◌-◌, ◌^◌, ◌≤◌, ◌<◌, ◌++◌, [], Some, None, IsErr, IfOk, OnOk, OnErr, IsErrOf, length, take, drop, min};
 ghost use Rattle.adr_test_io.specs.Memory.{Supply, Gathered, one_less};
 
+mod plan;
+
+pub use crate::plan::Plan;
 use adr_io::{Failures, Fault, Sink, Source};
 use std::alloc::Global;
 use std::marker::Model;
-
-/// Which call fails: the one after so many, or none. And how many have failed.
-#[derive(Drop)]
-struct Plan {
-    calls: Option<u32>,
-    failures: Failures,
-}
-
-impl Plan {
-    fn new() -> Plan
-        ensures { result ≡ record { calls = None; failures = 0 } }
-    {
-        Plan {
-            calls: None,
-            failures: Failures::new(),
-        }
-    }
-
-    fn is_due(&self) -> bool
-        ensures { IsTrue result ↔ (self.now.calls ≡ Some 0) }
-    {
-        matches!(self.calls, Some(0))
-    }
-
-    /// Fails the call, and is done.
-    fn fail(&mut self) -> Fault
-        ensures failed { result ≡ Fault.Failed
-            → self.new ≡ record { calls = None; failures = self.old.failures + 1 } }
-        ensures no_memory { result ≡ Fault.NoMemory → self.new ≡ self.old }
-        ensures limit { (result ≡ Fault.NoMemory) ↔ (self.old.failures ≡ 2 ^ 64 - 1) }
-    {
-        let fault = self.failures.fail();
-        if fault == Fault::Failed {
-            self.calls = None;
-        }
-        fault
-    }
-
-    /// Counts a call that passes.
-    fn pass(&mut self)
-        ensures { self.new ≡ record { calls = one_less self.old.calls; failures = self.old.failures } }
-    {
-        if let Some(calls) = self.calls {
-            self.calls = Some(calls.saturating_sub(1));
-        }
-    }
-}
 
 /// Bytes in memory, read in pieces.
 #[derive(Drop)]
@@ -63,12 +19,13 @@ pub struct MemSource {
     at: usize,
     piece: usize,
     plan: Plan,
+    failures: Failures,
 }
 
 impl Model for MemSource {
     ghost Value = { Supply };
 
-    ghost view = { λ s. record { left = drop s.at s.bytes.items; piece = s.piece; plan = s.plan.calls; faults = s.plan.failures } };
+    ghost view = { λ s. record { left = drop s.at s.bytes.items; piece = s.piece; plan = s.plan; faults = s.failures } };
 
     ghost invariant = { λ s. (s.at ≤ length s.bytes.items) × (0 < s.piece) };
 }
@@ -83,7 +40,8 @@ impl MemSource {
             bytes,
             at: 0,
             piece,
-            plan: Plan::new(),
+            plan: Plan::none(),
+            failures: Failures::new(),
         }
     }
 
@@ -91,7 +49,7 @@ impl MemSource {
     pub fn fail_after(&mut self, calls: u32)
         ensures { self.new ≡ record self.old { plan = Some calls } }
     {
-        self.plan.calls = Some(calls);
+        self.plan = Plan::after(calls);
     }
 }
 
@@ -115,7 +73,7 @@ impl Source for MemSource {
             ↔ (self.old.plan ≡ Some 0) × (self.old.faults ≡ 2 ^ 64 - 1) }
     {
         if self.plan.is_due() {
-            return Err(self.plan.fail());
+            return Err(self.plan.fail(&mut self.failures));
         }
         let rest = &self.bytes[self.at..];
         let count = rest.len().min(into.len()).min(self.piece);
@@ -131,12 +89,13 @@ impl Source for MemSource {
 pub struct MemSink {
     bytes: Vec<u8>,
     plan: Plan,
+    failures: Failures,
 }
 
 impl Model for MemSink {
     ghost Value = { Gathered };
 
-    ghost view = { λ s. record { written = s.bytes.items; plan = s.plan.calls; faults = s.plan.failures } };
+    ghost view = { λ s. record { written = s.bytes.items; plan = s.plan; faults = s.failures } };
 }
 
 impl MemSink {
@@ -145,7 +104,8 @@ impl MemSink {
     {
         MemSink {
             bytes: Vec::new(alloc),
-            plan: Plan::new(),
+            plan: Plan::none(),
+            failures: Failures::new(),
         }
     }
 
@@ -160,7 +120,7 @@ impl MemSink {
     pub fn fail_after(&mut self, calls: u32)
         ensures { self.new ≡ record self.old { plan = Some calls } }
     {
-        self.plan.calls = Some(calls);
+        self.plan = Plan::after(calls);
     }
 }
 
@@ -184,7 +144,7 @@ impl Sink for MemSink {
             → IsErrOf result Fault.NoMemory ↔ (self.old.faults ≡ 2 ^ 64 - 1) }
     {
         if self.plan.is_due() {
-            return Err(self.plan.fail());
+            return Err(self.plan.fail(&mut self.failures));
         }
         match self.bytes.extend_from_slice(bytes) {
             Ok(()) => {

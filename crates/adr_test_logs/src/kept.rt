@@ -29,7 +29,7 @@ fn new_state(alloc: Global) -> State
 }
 
 /// Begins to keep the new controller.
-fn begin<K: Keeper + Drop>(alloc: Global, keeper: K) -> Result<Controller<K>, K>
+pub fn begin<K: Keeper + Drop>(alloc: Global, keeper: K) -> Result<Controller<K>, K>
     requires takes { TakesAll K.Keeper }
     requires empty { K.is_empty keeper }
 {
@@ -53,43 +53,30 @@ fn write<K: Keeper>(
     Ok(acknowledged)
 }
 
-/// Adds the container, and describes it so many times; it tells whether all is acknowledged.
-fn describe<K: Keeper>(
-    alloc: Global,
-    controller: &mut Controller<K>,
-    times: u64,
-) -> Result<bool, NoMemory>
-    requires { TakesAll K.Keeper }
-{
-    let mut all = write(alloc, controller, Deed::Adds)?;
-    for _ in 0..times {
-        all = write(alloc, controller, Deed::Describes)? && all;
-    }
-    Ok(all)
-}
-
-/// Adds so many described containers, of the numbers from 100 on; it tells whether all is acknowledged.
-fn add_described<K: Keeper>(
-    alloc: Global,
-    controller: &mut Controller<K>,
-    count: u64,
-) -> Result<bool, NoMemory>
-    requires { TakesAll K.Keeper }
-{
-    let mut all = true;
-    for number in 100..count.saturating_add(100) {
-        all = write(alloc, controller, Deed::AddsDescribed(number))? && all;
-    }
-    Ok(all)
-}
-
 /// What a disk is filled with.
 #[derive(Clone, Copy)]
 pub enum Filling {
     /// The container, and so many descriptions of it, each in place of the one before.
     Descriptions(u64),
-    /// So many described containers.
+    /// So many described containers, of the numbers from 100 on.
     Containers(u64),
+}
+
+/// How many writes a filling has.
+fn length_of(filling: Filling) -> u64 {
+    match filling {
+        Filling::Descriptions(times) => times.saturating_add(1),
+        Filling::Containers(count) => count,
+    }
+}
+
+/// The write of a filling at a place.
+fn deed_at(filling: Filling, place: u64) -> Deed {
+    match filling {
+        Filling::Descriptions(_) if place == 0 => Deed::Adds,
+        Filling::Descriptions(_) => Deed::Describes,
+        Filling::Containers(_) => Deed::AddsDescribed(place.saturating_add(100)),
+    }
 }
 
 /// Fills a disk, and tells whether all is acknowledged.
@@ -100,10 +87,11 @@ fn fill<K: Keeper>(
 ) -> Result<bool, NoMemory>
     requires { TakesAll K.Keeper }
 {
-    match filling {
-        Filling::Descriptions(times) => describe(alloc, controller, times),
-        Filling::Containers(count) => add_described(alloc, controller, count),
+    let mut all = true;
+    for place in 0..length_of(filling) {
+        all = write(alloc, controller, deed_at(filling, place))? && all;
     }
+    Ok(all)
 }
 
 /// The USN of a controller that answers.
@@ -164,26 +152,20 @@ pub fn format<K: PlannedKeeper + Drop>(alloc: Global, keeper: K, how: Crash) -> 
     }
 }
 
-/// Begins and adds the container where a call meets a mishap, and tells whether that is acknowledged; then what a start
-/// finds behind a crash. None where it can't begin.
+/// Adds the container where a call meets a mishap, and tells whether that is acknowledged; then what a start finds behind a
+/// crash.
 pub fn commit<K: PlannedKeeper + Drop>(
     alloc: Global,
-    keeper: K,
+    mut controller: Controller<K>,
     met: Met,
     how: Crash,
-) -> Result<Option<(bool, Finding)>, NoMemory>
-    requires takes { TakesAll K.Keeper }
-    requires empty { K.is_empty keeper }
+) -> Result<(bool, Finding), NoMemory>
+    requires { TakesAll K.Keeper }
 {
-    match begin(alloc, keeper) {
-        Ok(mut controller) => {
-            plan(&mut controller, met);
-            let done = write(alloc, &mut controller, Deed::Adds);
-            let found = start_behind(controller.into_keeper(), how);
-            Ok(Some((done?, found)))
-        }
-        Err(_) => Ok(None),
-    }
+    plan(&mut controller, met);
+    let done = write(alloc, &mut controller, Deed::Adds);
+    let found = start_behind(controller.into_keeper(), how);
+    Ok((done?, found))
 }
 
 /// Starts where a call meets a mishap, and tells whether it could.
@@ -195,66 +177,48 @@ fn start_again<K: PlannedKeeper>(mut controller: Controller<K>, met: Met) -> (bo
     }
 }
 
-/// Begins, adds the container, and starts where a call meets a mishap: whether it could, and what a start finds behind a
-/// crash. None where it can't begin, or the container isn't acknowledged.
+/// Adds the container, and starts where a call meets a mishap: whether it could, and what a start finds behind a crash. None
+/// where the container isn't acknowledged.
 pub fn add_and_start<K: PlannedKeeper + Drop>(
     alloc: Global,
-    keeper: K,
+    mut controller: Controller<K>,
     met: Met,
     how: Crash,
 ) -> Result<Option<(bool, Finding)>, NoMemory>
-    requires takes { TakesAll K.Keeper }
-    requires empty { K.is_empty keeper }
+    requires { TakesAll K.Keeper }
 {
-    match begin(alloc, keeper) {
-        Ok(mut controller) => {
-            let added = write(alloc, &mut controller, Deed::Adds);
-            let (done, keeper) = start_again(controller, met);
-            let ended = (done, start_behind(keeper, how));
-            Ok(if added? { Some(ended) } else { None })
-        }
-        Err(_) => Ok(None),
-    }
+    let added = write(alloc, &mut controller, Deed::Adds);
+    let (done, keeper) = start_again(controller, met);
+    let ended = (done, start_behind(keeper, how));
+    Ok(if added? { Some(ended) } else { None })
 }
 
-/// Begins, fills the disk, and finds what a start does.
+/// Fills the disk, and finds what a start does.
 pub fn run<K: Keeper + Drop>(
     alloc: Global,
-    keeper: K,
+    mut controller: Controller<K>,
     filling: Filling,
 ) -> Result<Finding, NoMemory>
-    requires takes { TakesAll K.Keeper }
-    requires empty { K.is_empty keeper }
+    requires { TakesAll K.Keeper }
 {
-    match begin(alloc, keeper) {
-        Ok(mut controller) => {
-            let filled = fill(alloc, &mut controller, filling);
-            let found = start(controller.into_keeper());
-            filled?;
-            Ok(found)
-        }
-        Err(_) => Ok(Finding::Nothing),
-    }
+    let filled = fill(alloc, &mut controller, filling);
+    let found = start(controller.into_keeper());
+    filled?;
+    Ok(found)
 }
 
-/// The bytes on the disk of a new controller that is filled; none where it can't begin, or not all is acknowledged.
+/// The bytes on the disk of a controller that is filled; none where not all is acknowledged.
 pub fn bytes_of<K: PlannedKeeper + Drop>(
     alloc: Global,
-    keeper: K,
+    mut controller: Controller<K>,
     filling: Filling,
 ) -> Result<Option<Vec<u8>>, NoMemory>
-    requires takes { TakesAll K.Keeper }
-    requires empty { K.is_empty keeper }
+    requires { TakesAll K.Keeper }
 {
-    match begin(alloc, keeper) {
-        Ok(mut controller) => {
-            let filled = fill(alloc, &mut controller, filling);
-            let bytes = rehearsal::bytes(alloc, &controller);
-            drop(controller.into_keeper());
-            Ok(if filled? { Some(bytes?) } else { None })
-        }
-        Err(_) => Ok(None),
-    }
+    let filled = fill(alloc, &mut controller, filling);
+    let bytes = rehearsal::bytes(alloc, &controller);
+    drop(controller.into_keeper());
+    Ok(if filled? { Some(bytes?) } else { None })
 }
 
 /// What is left of a commit.

@@ -4,10 +4,10 @@ ghost use Rattle.std.specs.Prelude.{◌≡◌};
 ghost use Rattle.adr_test_logs.specs.Takes.{TakesAll};
 
 use crate::kept::{
-    Filling, Finding, Left, Met, add_and_start, bytes_of, commit, describe_again, format, run,
-    start,
+    Filling, Finding, Left, Met, add_and_start, begin, bytes_of, commit, describe_again, format,
+    run, start,
 };
-use adr_controller::Keeper;
+use adr_controller::{Controller, Keeper};
 use adr_disk::Crash;
 use adr_journal::Journal;
 use adr_law_recorded::{
@@ -69,6 +69,12 @@ pub fn format_log(alloc: Global, met: Met, how: Crash) -> (bool, Finding) {
     format(alloc, planned(alloc, met), how)
 }
 
+/// Begins on a disk in memory, if it can.
+fn begun(alloc: Global) -> Option<Controller<Log>> {
+    logs_take_all();
+    begin(alloc, in_memory::<Records>(alloc)).ok()
+}
+
 /// Begins on a disk in memory and adds the container where a call meets a mishap: whether that is acknowledged, and what a
 /// start finds behind a crash.
 pub fn commit_log(
@@ -77,20 +83,29 @@ pub fn commit_log(
     how: Crash,
 ) -> Result<Option<(bool, Finding)>, NoMemory> {
     logs_take_all();
-    commit(alloc, in_memory::<Records>(alloc), met, how)
+    match begun(alloc) {
+        Some(controller) => Ok(Some(commit(alloc, controller, met, how)?)),
+        None => Ok(None),
+    }
 }
 
 /// Begins on a disk in memory, adds the container, and starts where a call meets a mishap: whether it could, and what a
 /// start finds behind a crash.
 pub fn start_log(alloc: Global, met: Met, how: Crash) -> Result<Option<(bool, Finding)>, NoMemory> {
     logs_take_all();
-    add_and_start(alloc, in_memory::<Records>(alloc), met, how)
+    match begun(alloc) {
+        Some(controller) => add_and_start(alloc, controller, met, how),
+        None => Ok(None),
+    }
 }
 
 /// The bytes of a log in memory that is filled.
 pub fn log_bytes(alloc: Global, filling: Filling) -> Result<Option<Vec<u8>>, NoMemory> {
     logs_take_all();
-    bytes_of(alloc, in_memory::<Records>(alloc), filling)
+    match begun(alloc) {
+        Some(controller) => bytes_of(alloc, controller, filling),
+        None => Ok(None),
+    }
 }
 
 /// Starts a log of these bytes.
@@ -115,5 +130,8 @@ pub fn describe_log(
 /// Fills a new controller in memory alone, and starts it.
 pub fn run_plain(alloc: Global, filling: Filling) -> Result<Finding, NoMemory> {
     plain_logs_take_all();
-    run(alloc, Plain::<Records>::new(alloc), filling)
+    match begin(alloc, Plain::<Records>::new(alloc)) {
+        Ok(controller) => run(alloc, controller, filling),
+        Err(_) => Ok(Finding::Nothing),
+    }
 }

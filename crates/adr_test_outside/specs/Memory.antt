@@ -1,9 +1,10 @@
 -- What a clock, identifiers and a network in memory hold, and which of their calls will fail.
-use Rattle.std.specs.Prelude.{◌≡◌, ◌==◌, ◌⊎◌, ℕ, ◌+◌, ◌-◌, ◌^◌, false, if◌then◌else◌, List, [], ◌∷◌, ◌++◌, Option, Some, None}
+use Rattle.std.specs.Prelude.{◌≡◌, ◌⊎◌, ℕ, ◌+◌, ◌-◌, ◌^◌, false, if◌then◌else◌, List, [], ◌∷◌, ◌++◌, Option, Some}
 use Rattle.std.specs.Prelude.{Result, IsErr, IfOk, OnOk, IsErrOf}
 use Rattle.adr_io.specs.declared.Fault.{Fault}
 use Rattle.adr_io.specs.declared.Fault.TheVariants.{Failed, NoMemory}
 use Rattle.adr_outside.specs.Traffic.{Traffic, Opens, hung_up}
+use Rattle.adr_test_io.specs.Memory.{met, one_less}
 
 -- The values left. Where a plan is told, so many calls pass and the next fails.
 pub record Supply (A : Type 0) : Type 0 where
@@ -18,16 +19,6 @@ pub record Network : Type 0 where
   pub plan : Option ℕ
   pub doors : ℕ
   pub lines : ℕ
-
--- the plan after a call that passed
-abbrev pub one_less : Option ℕ → Option ℕ
-one_less None = None
-one_less (Some calls) = Some (calls - 1)
-
--- the plan after a call that failed: one that was due is done
-abbrev pub met : Option ℕ → Option ℕ
-met None = None
-met (Some calls) = if calls == 0 then None else Some calls
 
 -- a call is planned to fail, or nothing is left
 abbrev pub CannotGive : {A : Type 0} → Supply A → Type 0

@@ -1,14 +1,14 @@
 //! A network in memory.
 
-ghost use Rattle.std.specs.Prelude.{◌≡◌, ⊤, ◌<◌, ◌≤◌, ◌-◌, ◌^◌, true, false, None, Some, [], IsErr, IfOk, OnOk, OnErr, IsErrOf, length, take, drop, min};
+ghost use Rattle.std.specs.Prelude.{◌≡◌, ⊤, ◌<◌, ◌-◌, ◌^◌, None, Some, [], IsErr, IfOk, OnOk, IsErrOf, length, take, drop, min};
 ghost use Rattle.adr_outside.specs.Traffic.{Sends, hung_up};
 ghost use Rattle.adr_test_outside.specs.Connections.{bytes_of};
 ghost use Rattle.adr_test_outside.specs.Memory.{Network, CannotTalk, OpensNext, not_opened, all_sent, passed, door_failed, line_failed};
 
 use crate::connections::Connections;
-use crate::plan::Plan;
 use adr_io::{Failures, Fault};
 use adr_outside::Net;
+use adr_test_io::Plan;
 use std::alloc::Global;
 use std::marker::Model;
 
@@ -81,39 +81,14 @@ impl MemNet {
         self.plan = Plan::after(calls);
     }
 
-    fn fail_door(&mut self) -> Fault
-        ensures failed { result ≡ Fault.Failed → self.new ≡ door_failed self.old }
-        ensures no_memory { result ≡ Fault.NoMemory → self.new ≡ self.old }
-        ensures limit { result ≡ Fault.NoMemory → self.old.doors ≡ 2 ^ 64 - 1 }
-    {
-        let fault = self.doors.fail();
-        if fault == Fault::Failed {
-            self.plan.meet();
-        }
-        fault
-    }
-
-    fn fail_line(&mut self) -> Fault
-        ensures failed { result ≡ Fault.Failed → self.new ≡ line_failed self.old }
-        ensures no_memory { result ≡ Fault.NoMemory → self.new ≡ self.old }
-        ensures limit { result ≡ Fault.NoMemory → self.old.lines ≡ 2 ^ 64 - 1 }
-    {
-        let fault = self.lines.fail();
-        if fault == Fault::Failed {
-            self.plan.meet();
-        }
-        fault
-    }
-
     fn fail_opening(&mut self) -> Fault
         ensures failed { result ≡ Fault.Failed
             → self.new ≡ record (door_failed self.old) { traffic = hung_up self.old.traffic } }
         ensures no_memory { result ≡ Fault.NoMemory → self.new ≡ self.old }
         ensures limit { result ≡ Fault.NoMemory → self.old.doors ≡ 2 ^ 64 - 1 }
     {
-        let fault = self.doors.fail();
+        let fault = self.plan.fail(&mut self.doors);
         if fault == Fault::Failed {
-            self.plan.meet();
             self.connections.hang_up();
         }
         fault
@@ -149,7 +124,7 @@ impl Net for MemNet {
         ensures no_memory_only { IsErrOf result Fault.NoMemory → self.old.doors ≡ 2 ^ 64 - 1 }
     {
         if self.plan.is_due() {
-            return Err(self.fail_door());
+            return Err(self.plan.fail(&mut self.doors));
         }
         self.plan.pass();
         Ok(())
@@ -182,7 +157,7 @@ impl Net for MemNet {
         ensures no_memory_only { IsErrOf result Fault.NoMemory → self.old.lines ≡ 2 ^ 64 - 1 }
     {
         if self.plan.is_due() || !self.connections.is_open() {
-            return Err(self.fail_line());
+            return Err(self.plan.fail(&mut self.lines));
         }
         let count = self.connections.receive(into, self.piece);
         self.plan.pass();
@@ -200,7 +175,7 @@ impl Net for MemNet {
         ensures no_memory_due { CannotTalk self.old → IsErrOf result Fault.NoMemory → self.old.lines ≡ 2 ^ 64 - 1 }
     {
         if self.plan.is_due() || !self.connections.is_open() {
-            return Err(self.fail_line());
+            return Err(self.plan.fail(&mut self.lines));
         }
         self.connections.send(bytes)?;
         self.plan.pass();

@@ -1,10 +1,11 @@
 //! Values that are given one by one.
 
-ghost use Rattle.std.specs.Prelude.{◌≡◌, ◌≢◌, ◌⊎◌, ◌+◌, ◌-◌, ◌^◌, ◌≤◌, [], ◌∷◌, None, Some, IsNone, IfNone, IfSome, length, drop};
-ghost use Rattle.adr_test_outside.specs.Memory.{Supply as Left, Gives, met, one_less};
+ghost use Rattle.std.specs.Prelude.{◌≡◌, ◌≢◌, ◌⊎◌, ◌≤◌, [], ◌∷◌, None, Some, IsNone, IfNone, IfSome, length, drop};
+ghost use Rattle.adr_test_outside.specs.Memory.{Supply as Left, Gives};
+ghost use Rattle.adr_test_io.specs.Memory.{one_less};
 
-use crate::plan::Plan;
 use adr_io::{Failures, Fault};
+use adr_test_io::Plan;
 use std::marker::Model;
 
 /// Values, how many of them were given, which call fails, and how many have failed.
@@ -25,6 +26,7 @@ impl<T> Model for Supply<T> {
 }
 
 impl<T: Copy> Supply<T> {
+    /// These values. Once there are no more, a call fails.
     pub fn new(items: Vec<T>) -> Supply<T>
         ensures { result ≡ record { left = items.items; plan = None; faults = 0 } }
     {
@@ -36,23 +38,11 @@ impl<T: Copy> Supply<T> {
         }
     }
 
+    /// Lets so many calls pass, and fails the next.
     pub fn fail_after(&mut self, calls: u32)
         ensures { self.new ≡ record self.old { plan = Some calls } }
     {
         self.plan = Plan::after(calls);
-    }
-
-    fn fail(&mut self) -> Fault
-        ensures failed { result ≡ Fault.Failed
-            → self.new ≡ record self.old { plan = met self.old.plan; faults = self.old.faults + 1 } }
-        ensures no_memory { result ≡ Fault.NoMemory → self.new ≡ self.old }
-        ensures limit { result ≡ Fault.NoMemory → self.old.faults ≡ 2 ^ 64 - 1 }
-    {
-        let fault = self.failures.fail();
-        if fault == Fault::Failed {
-            self.plan.meet();
-        }
-        fault
     }
 
     /// The value that the next call gives, if that doesn't fail.
@@ -76,6 +66,7 @@ impl<T: Copy> Supply<T> {
         self.plan.pass();
     }
 
+    /// The next value.
     pub fn give(&mut self) -> Result<T, Fault>
         ensures { Gives self.old result self.new }
     {
@@ -84,7 +75,7 @@ impl<T: Copy> Supply<T> {
                 self.pass();
                 Ok(item)
             }
-            None => Err(self.fail()),
+            None => Err(self.plan.fail(&mut self.failures)),
         }
     }
 }

@@ -94,57 +94,22 @@ fn classes_are_those_of_the_table(rt: HostRuntime) -> Result<(), Fail> {
     Ok(())
 }
 
-const UP_TO_20: Syntax = Syntax::Text {
-    least: 1,
-    greatest: 20,
-};
-
-const UP_TO_64: Syntax = Syntax::Text {
-    least: 1,
-    greatest: 64,
-};
-
-const UP_TO_128: Syntax = Syntax::Text {
-    least: 1,
-    greatest: 128,
-};
-
-const UP_TO_256: Syntax = Syntax::Text {
-    least: 1,
-    greatest: 256,
-};
-
-const OCTETS: Syntax = Syntax::Octets {
-    least: 1,
-    greatest: 64,
-};
-
-const EMPLOYEE: Syntax = Syntax::Number {
-    least: 0,
-    greatest: 999_999_999,
-};
-
-const SIGNED: Syntax = Syntax::Number {
-    least: -2147483648,
-    greatest: 2147483647,
-};
-
 #[rattlefmt::skip]
 const ATTRIBUTES: &[(u16, &str, Kind)] = &[
     (1, "class", Kind::Reserved),
     (2, "name", Kind::Reserved),
     (3, "deleted", Kind::Reserved),
-    (10, "sAMAccountName", Kind::Plain { syntax: UP_TO_20, most: 1 }),
-    (11, "displayName", Kind::Plain { syntax: UP_TO_256, most: 1 }),
-    (12, "description", Kind::Plain { syntax: UP_TO_256, most: 8 }),
-    (13, "mail", Kind::Plain { syntax: UP_TO_256, most: 1 }),
-    (14, "telephoneNumber", Kind::Plain { syntax: UP_TO_64, most: 8 }),
-    (15, "employeeNumber", Kind::Plain { syntax: EMPLOYEE, most: 1 }),
+    (10, "sAMAccountName", Kind::Plain { syntax: Syntax::Text { least: 1, greatest: 20 }, most: 1 }),
+    (11, "displayName", Kind::Plain { syntax: Syntax::Text { least: 1, greatest: 256 }, most: 1 }),
+    (12, "description", Kind::Plain { syntax: Syntax::Text { least: 1, greatest: 256 }, most: 8 }),
+    (13, "mail", Kind::Plain { syntax: Syntax::Text { least: 1, greatest: 256 }, most: 1 }),
+    (14, "telephoneNumber", Kind::Plain { syntax: Syntax::Text { least: 1, greatest: 64 }, most: 8 }),
+    (15, "employeeNumber", Kind::Plain { syntax: Syntax::Number { least: 0, greatest: 999_999_999 }, most: 1 }),
     (16, "disabled", Kind::Plain { syntax: Syntax::Flag, most: 1 }),
-    (17, "thumbprint", Kind::Plain { syntax: OCTETS, most: 4 }),
+    (17, "thumbprint", Kind::Plain { syntax: Syntax::Octets { least: 1, greatest: 64 }, most: 4 }),
     (18, "seeAlso", Kind::Plain { syntax: Syntax::Ref, most: 8 }),
-    (19, "groupType", Kind::Plain { syntax: SIGNED, most: 1 }),
-    (20, "location", Kind::Plain { syntax: UP_TO_128, most: 1 }),
+    (19, "groupType", Kind::Plain { syntax: Syntax::Number { least: -2147483648, greatest: 2147483647 }, most: 1 }),
+    (20, "location", Kind::Plain { syntax: Syntax::Text { least: 1, greatest: 128 }, most: 1 }),
     (30, "member", Kind::Forward { back: 31 }),
     (31, "memberOf", Kind::Back { forward: 30 }),
     (32, "manager", Kind::Forward { back: 33 }),

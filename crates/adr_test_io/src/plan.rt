@@ -1,8 +1,9 @@
 //! Which call fails.
 
-ghost use Rattle.std.specs.Prelude.{◌≡◌, ◌↔◌, Some, None, IsTrue};
-ghost use Rattle.adr_test_outside.specs.Memory.{one_less, met};
+ghost use Rattle.std.specs.Prelude.{◌≡◌, ◌↔◌, ◌+◌, ◌^◌, ◌-◌, Some, None, IsTrue};
+ghost use Rattle.adr_test_io.specs.Memory.{one_less, met};
 
+use adr_io::{Failures, Fault};
 use std::marker::Model;
 
 /// The call after so many fails, or none does.
@@ -47,12 +48,18 @@ impl Plan {
         }
     }
 
-    /// After a call that failed: a plan that was due is done.
-    pub fn meet(&mut self)
-        ensures { self.new ≡ met self.old }
+    /// A call fails, as is counted: a plan that was due is done. A failure that can't be counted is want of memory.
+    pub fn fail(&mut self, failures: &mut Failures) -> Fault
+        ensures met { result ≡ Fault.Failed → self.new ≡ met self.old }
+        ensures counted { result ≡ Fault.Failed → failures.new ≡ failures.old + 1 }
+        ensures no_memory { result ≡ Fault.NoMemory → self.new ≡ self.old }
+        ensures uncounted { result ≡ Fault.NoMemory → failures.new ≡ failures.old }
+        ensures limit { (result ≡ Fault.NoMemory) ↔ (failures.old ≡ 2 ^ 64 - 1) }
     {
-        if let Some(0) = self.calls {
+        let fault = failures.fail();
+        if fault == Fault::Failed && self.is_due() {
             self.calls = None;
         }
+        fault
     }
 }
