@@ -4,4 +4,3 @@ mod InParts
 mod Living
 mod Superiors
 mod LinkInParts
-mod Writes

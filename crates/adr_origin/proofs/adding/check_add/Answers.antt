@@ -1,4 +1,3 @@
-use Rattle.std.proofs.Common.{None}
 use Rattle.std.proofs.lemmas.Result.{err_from_is_err_and}
 use Rattle.adr_origin.proofs.InParts.{object_told, place_told, room_told}
 use Rattle.adr_origin.proofs.adding.check_add.Goals as goal
@@ -20,6 +19,3 @@ returns-in_err-check_room-clause-told c =
     let p = err_from_is_err_and c.from_residual-in_err-check_room.result c.from_residual-in_err-check_room.ensures.1 in
     rw (p.1, p.2)
     (room_told c.args.state.now c.args.object.now.guid c.args.object.now.class c.args.object.now.parent c.args.object.now.text.now c.args.object.now.values.now c.in_ok-check_object.ensures _ c.in_ok-check_place.ensures c.in_err-check_room.ensures.told)
-
-pub returns-clause-told : goal.returns-clause-told
-returns-clause-told c = room_told c.args.state.now c.args.object.now.guid c.args.object.now.class c.args.object.now.parent c.args.object.now.text.now c.args.object.now.values.now c.in_ok-check_object.ensures None c.in_ok-check_place.ensures c.in_ok-check_room.ensures.told

@@ -1,15 +1,10 @@
-use Rattle.std.proofs.Common.{List, sym, ap, ◌∙◌, subst, find}
-use Rattle.std.specs.Prelude.{IsSome}
+use Rattle.std.proofs.Common.{List, ap, ◌∙◌, find}
 use Rattle.std.specs.Option.{option_map}
-use Rattle.adr_model.specs.Place.{Node, node_at, place}
+use Rattle.adr_model.specs.Place.{Node, place}
 use Rattle.adr_model.specs.Store.{Held, updates_of}
 use Rattle.adr_model.specs.Update.{same_identifier}
 use Rattle.adr_model.specs.Write.{nodes_held}
 use Rattle.adr_origin.proofs.live.first_child.Goals as goal
-
-pub first_child-requires-clause-live : goal.first_child-requires-clause-live
-first_child-requires-clause-live c =
-    subst (λ (rs : List Held). IsSome (node_at (nodes_held (updates_of rs)) c.args.guid)) (sym c.rows.ensures) c.requires.live
 
 pub returns : goal.returns
 returns c =

@@ -1,14 +1,10 @@
-use Rattle.std.proofs.Common.{List, ◌≡◌, Option, sym, subst}
+use Rattle.std.proofs.Common.{List, ◌≡◌, Option, subst}
 use Rattle.std.specs.Prelude.{IfOk}
 use Rattle.adr_model.specs.Shown.{name_holder}
 use Rattle.adr_model.specs.Store.{Held, updates_of}
 use Rattle.adr_model.specs.Update.{Identifier}
 use Rattle.adr_model.specs.Write.{nodes_held}
-use Rattle.adr_tree.specs.Parent.{IsParent}
 use Rattle.adr_origin.proofs.live.holder.Goals as goal
-
-pub holder-requires : goal.holder-requires
-holder-requires c = subst (λ (rs : List Held). IsParent (nodes_held (updates_of rs)) c.args.parent) (sym c.rows.ensures) c.requires
 
 pub returns : goal.returns
 returns c =
