@@ -7,16 +7,16 @@ use Rattle.adr_failure.specs.declared.Failure.{Failure}
 use Rattle.adr_vector.specs.Vector.{Cursors, at, cursor_limit, raised}
 use Rattle.adr_vector.proofs.Placing.{raised_seen}
 use Rattle.adr_wire.specs.declared.refusal.Malformed.{Malformed}
-use Rattle.adr_wire.specs.Reading.{Names, Read, Refuses, Rest, Tells, TellsAs, ◌>>=◌, then_at}
+use Rattle.adr_wire.specs.Reading.{Names, Read, Reading, Refuses, Rest, Tells, TellsAs, ◌>>=◌, then_at}
 use Rattle.adr_wire.specs.Spelling.{AreBytes}
 use Rattle.adr_wire.proofs.Combining.{from}
-use Rattle.adr_wire.proofs.Loops.{names_refuses, refuses_then}
+use Rattle.adr_wire.proofs.Loops.{names_refuses, refuses_is, refuses_then}
 use Rattle.adr_model.specs.Collect.{woken}
 use Rattle.adr_model.specs.Store.{Normal, State, Store}
 use Rattle.adr_model.specs.Update.{Identifier}
 use Rattle.adr_law_journal.specs.Areas.{Began}
 use Rattle.adr_image.specs.Stored.{image_at}
-use Rattle.adr_image.proofs.Steps.{then_first, then_ok, then_second}
+use Rattle.adr_image.proofs.Steps.{then_ok}
 use Rattle.adr_records.specs.Head.{area_at, began, framed_at, front_at, own_image_at, sized, sized_at, state_of}
 use Rattle.adr_records.specs.HeadLaws.{Ids, IsOwn, front_read, is_own, own_spelled, sized_long, sized_spelled}
 
@@ -101,6 +101,16 @@ own_fits inv n s own many =
     omega (arith, few, same, many)
 
 -- ---- the whole
+
+-- ---- a field that is refused, and one behind it
+
+then_first : {A B : Type 0} (e : Failure Malformed) (a : Reading A) (b : A → Reading B) (rest : Rest) → Refuses e (a rest) → Refuses e (then_at a b rest)
+then_first e a b rest h = refuses_then e (a rest) (λ z. b z.0 z.1 >>= λ w. Ok ((z.0, w.0), w.1)) h
+
+then_second : {A B : Type 0} (e : Failure Malformed) (a : Reading A) (b : A → Reading B) (rest mid : Rest) (x : A) → a rest ≡ Ok (x, mid) → Refuses e (b x mid) → Refuses e (then_at a b rest)
+then_second {A} {B} e a b rest mid x p h =
+    refuses_is e (b x mid >>= λ w. Ok ((x, w.0), w.1)) (then_at a b rest) (sym (ap (λ (r : Read A). r >>= λ z. b z.0 z.1 >>= λ w. Ok ((z.0, w.0), w.1)) p))
+    (refuses_then e (b x mid) (λ w. Ok ((x, w.0), w.1)) h)
 
 module _ (o : Ids) (r0 : Rest) where
   abbrev image_behind : ℕ × ℕ → Rest → Read Store
