@@ -15,7 +15,7 @@ use Rattle.adr_journal.specs.declared.keeper.Keeper.{Ghosts}
 use Rattle.adr_controller.specs.declared.refusal.Hindrance.{Hindrance}
 use Rattle.adr_controller.specs.declared.refusal.Hindrance.TheVariants.{Down, Failed, DiskFault, NoMemory}
 use Rattle.adr_controller.specs.declared.refusal.CallRefusal.{CallRefusal}
-use Rattle.adr_controller.specs.declared.refusal.CallRefusal.TheVariants.{Refused, Hindered}
+use Rattle.adr_controller.specs.declared.refusal.CallRefusal.TheVariants.{Hindered}
 use Rattle.adr_controller.specs.Running.{Running, IsInOrder}
 use Rattle.adr_controller.specs.Ended.{call_hindrance, of_failure}
 use Rattle.adr_controller.specs.Did.{Ran, Commits, Calls, IsMade}
@@ -135,15 +135,6 @@ failed_so {T} {R} failures.NoMemory made result y is gives none = inl (ap (call_
 -- how a call ended that was hindered
 pub hindered_so : {T R : Type 0} (h : Hindrance) (result : Result T (CallRefusal R)) (y : CallRefusal R) → result ≡ Err y → y ≡ Hindered h → Some h ≡ call_hindrance result
 hindered_so {T} {R} h result y is gives = sym (ap (call_hindrance {T = T} {R = R}) (is ∙ ap (λ e. let x : Result T (CallRefusal R) = Err e in x) gives))
-
--- a pure call that refused
-pub refused_by : {T R : Type 0} (e : Failure R) (result : Result T (CallRefusal R)) (y : CallRefusal R) (refusal : R) → result ≡ Err y → y ≡ of_failure e → result ≡ Err (Refused refusal) → e ≡ failures.Refused refusal
-refused_by (failures.Refused r) result y refusal is gives refused = cc (is, gives, refused)
-refused_by failures.NoMemory result y refusal is gives refused = absurd (cc (is, gives, refused))
-
--- what was hindered wasn't refused
-pub not_refused_by : {T R : Type 0} (h : Hindrance) (result : Result T (CallRefusal R)) (y : CallRefusal R) (refusal : R) → result ≡ Err y → y ≡ Hindered h → result ≡ Err (Refused refusal) → ⊥
-not_refused_by h result y refusal is gives refused = cc (is, gives, refused)
 
 -- the change of a quarantine, where it is asked for
 pub quarantines : (c : Change) (s : State) (asked : Bool) → c ≡ quarantine s → asked ≡ true → Some c ≡ then_some asked (quarantine s)
