@@ -42,33 +42,12 @@ impl fmt::Display for Table {
 /// Why an originating write was refused. It then changed nothing. An `attr` is an attribute's number.
 #[derive(Clone, Copy, Error)]
 pub enum WriteRefusal {
-    /// The schema has no such class.
-    #[error("UnknownClass")]
-    UnknownClass,
-    /// The schema has no such attribute.
-    #[error("UnknownAttribute attr=%{attr}")]
-    UnknownAttribute { attr: u16 },
-    /// The attribute is reserved, or objects of the class do not have it.
-    #[error("NotAllowed attr=%{attr}")]
-    NotAllowed { attr: u16 },
-    /// An attribute that objects of the class must have would have no value.
-    #[error("MissingMust attr=%{attr}")]
-    MissingMust { attr: u16 },
-    /// The value at `place`, from 0, breaks the schema or repeats an earlier one.
-    #[error("BadValue attr=%{attr} place={place}")]
-    BadValue { attr: u16, place: u32 },
-    /// Values are given to an attribute that holds links.
-    #[error("IsLink attr=%{attr}")]
-    IsLink { attr: u16 },
-    /// A link is given to an attribute that no link is written under.
-    #[error("NotLink attr=%{attr}")]
-    NotLink { attr: u16 },
+    /// The schema refuses what it would write.
+    #[error(transparent)]
+    Schema(SchemaRefusal),
     /// No object of the class may stand under the parent.
     #[error("BadSuperior")]
     BadSuperior,
-    /// The name is wrong at `place`, counted in bytes.
-    #[error("BadName place={place}")]
-    BadName { place: u32 },
     /// No object of the GUID is held.
     #[error("NoObject guid=#{guid}")]
     NoObject { guid: Guid },

@@ -12,12 +12,13 @@ use Rattle.adr_schema.specs.declared.refusal.SchemaRefusal.TheVariants.{BadName}
 use Rattle.adr_schema.specs.Rules.{modify_refusal as schema_modify_refusal}
 use Rattle.adr_schema.proofs.ExactRows.{may_be_held, modified_may_be_held}
 use Rattle.adr_vector.specs.Vector.{at}
+use Rattle.adr_call.specs.declared.refusal.WriteRefusal.TheVariants.{Schema as BreaksSchema}
 use Rattle.adr_model.specs.Member.{Member, Each}
 use Rattle.adr_model.specs.Update.{Identifier, RowOf, Holds, Update, unit_of, name_attr, deleted_attr}
 use Rattle.adr_model.specs.Reflects.{HoldsObject, Supersedes, IsDeath}
 use Rattle.adr_model.specs.Store.{State, updates_of}
 use Rattle.adr_model.specs.Formed.{IsFormed}
-use Rattle.adr_model.specs.Write.{Modify, Rename, Delete, of_schema, object_refusal, nodes_held, class_of, object_of, next_row, modify_refusals, modify_refusal, rename_refusals, rename_refusal, delete_refusals, delete_refusal, rows_written}
+use Rattle.adr_model.specs.Write.{Modify, Rename, Delete, object_refusal, nodes_held, class_of, object_of, next_row, modify_refusals, modify_refusal, rename_refusals, rename_refusal, delete_refusals, delete_refusal, rows_written}
 use Rattle.adr_model.specs.Given.{AreInOrder}
 use Rattle.adr_model.proofs.Members.{mapped_member}
 use Rattle.adr_law_steps.specs.Puts.{MayPut}
@@ -62,7 +63,7 @@ module _ (s : State) (formed : IsFormed s) (guid : Identifier) where
 
   module _ (parent : Identifier) (text : List ℕ) (none : rename_refusal s guid parent text ≡ None) where
     well_named : name_fault text ≡ None
-    well_named = not_mapped BadName _ (not_mapped of_schema _ (none_there (rename_refusals s guid parent text) none _ (inr (inr (inr (inl refl))))))
+    well_named = not_mapped BadName _ (not_mapped BreaksSchema _ (none_there (rename_refusals s guid parent text) none _ (inr (inr (inr (inl refl))))))
 
     pub may_rename : (now : ℕ) → MayWrite s (rows_written s (Rename guid parent text) now).unit (rows_written s (Rename guid parent text) now).rows
     may_rename now = one_row now name_attr (Name text parent) (live (none_there (rename_refusals s guid parent text) none _ (inr (inr (inl refl)))))
@@ -82,7 +83,7 @@ module _ (s : State) (formed : IsFormed s) (guid : Identifier) where
     alive = live (none_there (modify_refusals s guid values) none _ (inr (inr (inl refl))))
 
     allowed : schema_modify_refusal (numbered s.store.schema) class values ≡ None
-    allowed = not_mapped of_schema _ (none_there (modify_refusals s guid values) none _ (inr (inr (inr (inl refl)))))
+    allowed = not_mapped BreaksSchema _ (none_there (modify_refusals s guid values) none _ (inr (inr (inr (inl refl)))))
 
     held_values : (g : Given) → Member g values → MayBeHeld (numbered s.store.schema) class g.0 g.1
     held_values g m = let p = place_of values g m in

@@ -17,7 +17,7 @@ use Rattle.adr_vector.specs.Vector.{at, raised, cursor_limit}
 use Rattle.adr_vector.proofs.Cursors.{test_itself}
 use Rattle.adr_call.specs.declared.refusal.Table.TheVariants.{Objects, Cursors}
 use Rattle.adr_call.specs.declared.refusal.WriteRefusal.{WriteRefusal}
-use Rattle.adr_call.specs.declared.refusal.WriteRefusal.TheVariants.{GuidThere}
+use Rattle.adr_call.specs.declared.refusal.WriteRefusal.TheVariants.{Schema as BreaksSchema, GuidThere}
 use Rattle.adr_model.specs.Member.{Member}
 use Rattle.adr_model.specs.Update.{Identifier, RowOf, Update, unit_of, class_attr, name_attr, deleted_attr}
 use Rattle.adr_model.specs.Live.{objects_of}
@@ -26,7 +26,7 @@ use Rattle.adr_model.specs.Reflects.{CoversBirth, HoldsObject, IsDeath}
 use Rattle.adr_model.specs.Store.{State, updates_of}
 use Rattle.adr_model.specs.Take.{is_birth}
 use Rattle.adr_model.specs.Formed.{IsFormed}
-use Rattle.adr_model.specs.Write.{AddObject, object_limit, of_schema, is_of_guid, holds_guid, first_stamp, new_object, new_rows, row, add_refusals, add_refusal, rows_written}
+use Rattle.adr_model.specs.Write.{AddObject, object_limit, is_of_guid, holds_guid, first_stamp, new_object, new_rows, row, add_refusals, add_refusal, rows_written}
 use Rattle.adr_model.specs.Given.{AreInOrder}
 use Rattle.adr_model.proofs.Members.{each_fails, mapped_member, member_mapped}
 use Rattle.adr_law_steps.specs.Puts.{MayPut}
@@ -149,10 +149,10 @@ module _ (s : State) (formed : IsFormed s) (guid : Identifier) (class : ℕ) (pa
   not_there = (or_parts (is_fixed guid) (holds_guid held guid) (not_so (is_fixed guid || holds_guid held guid) (GuidThere guid) (none_there refusals none _ (inr (inl refl))))).1
 
   allowed : schema_add_refusal (numbered s.store.schema) class values ≡ None
-  allowed = not_mapped of_schema _ (none_there refusals none _ (inr (inr (inl refl))))
+  allowed = not_mapped BreaksSchema _ (none_there refusals none _ (inr (inr (inl refl))))
 
   added_name : name_fault text ≡ None
-  added_name = not_mapped BadName _ (not_mapped of_schema _ (none_there refusals none _ (inr (inr (inr (inl refl))))))
+  added_name = not_mapped BadName _ (not_mapped BreaksSchema _ (none_there refusals none _ (inr (inr (inr (inl refl))))))
 
   added_room : HasRoom s
   added_room = record {

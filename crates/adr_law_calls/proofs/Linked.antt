@@ -12,12 +12,12 @@ use Rattle.adr_schema.proofs.ExactCalls.{neither, not_then}
 use Rattle.adr_vector.specs.Vector.{at}
 use Rattle.adr_call.specs.declared.refusal.WriteRefusal.{WriteRefusal}
 use Rattle.adr_call.specs.declared.refusal.Table.TheVariants.{Links}
-use Rattle.adr_call.specs.declared.refusal.WriteRefusal.TheVariants.{LinkThere, LinkNotThere}
+use Rattle.adr_call.specs.declared.refusal.WriteRefusal.TheVariants.{Schema as BreaksSchema, LinkThere, LinkNotThere}
 use Rattle.adr_model.specs.Member.{Each}
 use Rattle.adr_model.specs.Update.{Identifier, LinkOf, IsPresent, Update, same_key, unit_of, ends}
 use Rattle.adr_model.specs.Store.{Held, State, updates_of, row_held}
 use Rattle.adr_model.specs.Formed.{IsFormed}
-use Rattle.adr_model.specs.Write.{AddLink, RemoveLink, of_schema, object_refusal, full_refusal, nodes_held, class_of, object_of, link_of, is_linked, says_present, links_in, link_limit, more_links, any_link_refusals, any_link_refusal, link_refusal, unlink_refusal, rows_written}
+use Rattle.adr_model.specs.Write.{AddLink, RemoveLink, object_refusal, full_refusal, nodes_held, class_of, object_of, link_of, is_linked, says_present, links_in, link_limit, more_links, any_link_refusals, any_link_refusal, link_refusal, unlink_refusal, rows_written}
 use Rattle.std.specs.Bool.{then_some}
 use Rattle.adr_law_knowledge.proofs.Comparing.{keys_tell}
 use Rattle.adr_law_steps.proofs.Rows.{updated}
@@ -63,7 +63,7 @@ module _ (s : State) (formed : IsFormed s) (from : Identifier) (attr : ℕ) (to 
 
     forward : is_forward (kind_at (numbered s.store.schema) attr) ≡ true
     forward = is_forward_link (numbered s.store.schema) (class_of (nodes_held rows) from) attr
-        (not_mapped of_schema _ (none_there refusals none _ (inr (inr (inr (inr (inl refl)))))))
+        (not_mapped BreaksSchema _ (none_there refusals none _ (inr (inr (inr (inr (inl refl)))))))
 
     not_wrong : wrong (is_linked s.store.rows link) ≡ None
     not_wrong = none_there refusals none _ (inr (inr (inr (inr (inr (inr (inl refl)))))))

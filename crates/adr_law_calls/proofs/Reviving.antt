@@ -26,7 +26,7 @@ use Rattle.adr_schema.specs.Rules.{link_refusal as schema_link_refusal}
 use Rattle.adr_schema.proofs.Extending.{schemas_grow}
 use Rattle.adr_vector.specs.Vector.{at, raised, cursor_limit}
 use Rattle.adr_call.specs.declared.refusal.WriteRefusal.{WriteRefusal}
-use Rattle.adr_call.specs.declared.refusal.WriteRefusal.TheVariants.{SchemaMismatch, NotInImage, BirthThere}
+use Rattle.adr_call.specs.declared.refusal.WriteRefusal.TheVariants.{Schema as BreaksSchema, SchemaMismatch, NotInImage, BirthThere}
 use Rattle.adr_call.specs.declared.refusal.Table.TheVariants.{Objects, Links, Cursors}
 use Rattle.adr_call.specs.declared.directory.Entry.{Entry}
 use Rattle.adr_model.specs.Member.{Member, Each}
@@ -37,7 +37,7 @@ use Rattle.adr_model.specs.Reflects.{HoldsObject, IsTombstoned, IsDeath}
 use Rattle.adr_model.specs.Store.{Held, Store, State, updates_of}
 use Rattle.adr_model.specs.Change.{Item}
 use Rattle.adr_model.specs.Formed.{IsFormedStore, IsFormed}
-use Rattle.adr_model.specs.Write.{Revive, object_limit, link_limit, of_schema, nodes_held, class_of, links_in, new_object, first_stamp, row, shown_in, entry_in, other_end, link_at, is_link_of, link_revived, links_revived, names_object, revive_refusals, revive_refusal, link_row, new_links, rows_written, more_written}
+use Rattle.adr_model.specs.Write.{Revive, object_limit, link_limit, nodes_held, class_of, links_in, new_object, first_stamp, row, shown_in, entry_in, other_end, link_at, is_link_of, link_revived, links_revived, names_object, revive_refusals, revive_refusal, link_row, new_links, rows_written, more_written}
 use Rattle.adr_model.proofs.Members.{each_fails, flat_member, of_filter_map, one_passes}
 use Rattle.adr_law_knowledge.specs.Rises.{Rises}
 use Rattle.adr_law_knowledge.proofs.Lists.{sorted_rises, of_sorted}
@@ -222,7 +222,7 @@ module _ (s : State) (formed : IsFormed s) (image : Store) (guid parent : Identi
   absent (r, attr, m, is) = not_about r m (subst (λ k. Member o (ends k)) (sym is) (inl refl))
 
   well_named : name_fault text ≡ None
-  well_named = not_mapped BadName _ (not_mapped of_schema _ (none_there refusals none _ (inr (inr (inr (inr (inr (inr (inl refl)))))))))
+  well_named = not_mapped BadName _ (not_mapped BreaksSchema _ (none_there refusals none _ (inr (inr (inr (inr (inr (inr (inl refl)))))))))
 
   room : HasRoom s
   room = record {

@@ -1,5 +1,7 @@
 -- Which outcomes are plain: no write is acknowledged, and no refusal is one that never comes in a sound world.
 use Rattle.std.proofs.Common.{◌≡◌, ℕ, Bool, true, false, not, ◌||◌, ◌==◌, refl, ap}
+use Rattle.adr_schema.specs.declared.refusal.SchemaRefusal.{SchemaRefusal}
+use Rattle.adr_schema.specs.declared.refusal.SchemaRefusal.TheVariants.{UnknownClass}
 use Rattle.adr_call.specs.declared.outcome.Outcome.{Outcome}
 use Rattle.adr_call.specs.declared.outcome.Outcome.TheVariants as outcomes
 use Rattle.adr_call.specs.declared.report.Report.{Report}
@@ -13,7 +15,7 @@ use Rattle.adr_call.specs.declared.refusal.UpgradeRefusal.TheVariants as upgrade
 use Rattle.adr_call.specs.declared.refusal.AdoptRefusal.{AdoptRefusal}
 use Rattle.adr_call.specs.declared.refusal.AdoptRefusal.TheVariants as adopts
 use Rattle.adr_model.specs.Store.{State}
-use Rattle.adr_model.specs.Refused.{write_refused, collect_refused, adopt_refused, upgrade_refused}
+use Rattle.adr_model.specs.Refused.{schema_refused, write_refused, collect_refused, adopt_refused, upgrade_refused}
 use Rattle.adr_disk.specs.declared.memory.Mishap.TheVariants.{Fails, Stops}
 use Rattle.adr_model.specs.Replica.{Went, Passed, Met, outcome_after}
 use Rattle.adr_model.specs.World.{World, reported}
@@ -39,8 +41,12 @@ is_plain _ = true
 abbrev pub IsPlain : Outcome → Type 0
 IsPlain o = is_plain o ≡ true
 
+schema_refused_plainly : (x : SchemaRefusal) → IsPlain (schema_refused x)
+schema_refused_plainly UnknownClass = refl
+schema_refused_plainly _ = refl
+
 pub write_refused_plainly : (x : WriteRefusal) → IsPlain (write_refused x)
-write_refused_plainly writes.UnknownClass = refl
+write_refused_plainly (writes.Schema x) = schema_refused_plainly x
 write_refused_plainly _ = refl
 
 pub collect_refused_plainly : (x : CollectRefusal) → IsPlain (collect_refused x)

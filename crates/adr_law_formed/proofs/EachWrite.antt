@@ -15,7 +15,7 @@ use Rattle.adr_schema.specs.declared.content.Value.{Value as Datum}
 use Rattle.adr_schema.specs.Numbered.{numbered}
 use Rattle.adr_schema.specs.Rules.{add_refusal as schema_add_refusal, modify_refusal as schema_modify_refusal, name_refusal as schema_name_refusal, link_refusal as schema_link_refusal}
 use Rattle.adr_call.specs.declared.refusal.WriteRefusal.{WriteRefusal}
-use Rattle.adr_call.specs.declared.refusal.WriteRefusal.TheVariants.{Quarantined, GuidThere, NameTaken, LinkThere, LinkNotThere}
+use Rattle.adr_call.specs.declared.refusal.WriteRefusal.TheVariants.{Schema as BreaksSchema, Quarantined, GuidThere, NameTaken, LinkThere, LinkNotThere}
 use Rattle.adr_call.specs.declared.refusal.Table.TheVariants.{Objects, Links}
 use Rattle.std.specs.Cmp.{nat_cmp_is}
 use Rattle.std.proofs.lemmas.Bool.{or_parts}
@@ -34,7 +34,7 @@ use Rattle.adr_model.specs.Change.{Written, Change}
 use Rattle.adr_model.specs.Serve.{is_quarantined}
 use Rattle.adr_model.specs.Formed.{IsFormed, IsFormedStore}
 use Rattle.adr_model.specs.Take.{is_above}
-use Rattle.adr_model.specs.Write.{Write, AddObject, Modify, Rename, Delete, AddLink, RemoveLink, object_limit, link_limit, of_schema, fixed_refusal, object_refusal, parent_refusal, loop_refusal, superior_refusal, name_refusal, child_refusal, version_refusal, usn_refusal, full_refusal, cursor_refusal, any_link_refusal, is_of_guid, holds_guid, link_of, is_linked, links_in, more_links, nodes_held, class_of, object_of, version_of, first_created, next_row, first_stamp, new_object, new_rows, row, write_refusal, items_written, own_change, write, Revive, entry_in, rows_written, more_written, links_revived, new_links, link_row, revive_refusals, revive_refusal}
+use Rattle.adr_model.specs.Write.{Write, AddObject, Modify, Rename, Delete, AddLink, RemoveLink, object_limit, link_limit, fixed_refusal, object_refusal, parent_refusal, loop_refusal, superior_refusal, name_refusal, child_refusal, version_refusal, usn_refusal, full_refusal, cursor_refusal, any_link_refusal, is_of_guid, holds_guid, link_of, is_linked, links_in, more_links, nodes_held, class_of, object_of, version_of, first_created, next_row, first_stamp, new_object, new_rows, row, write_refusal, items_written, own_change, write, Revive, entry_in, rows_written, more_written, links_revived, new_links, link_row, revive_refusals, revive_refusal}
 use Rattle.adr_model.specs.Given.{IsWellGiven, AreInOrder}
 use Rattle.std.specs.Bool.{then_some}
 use Rattle.adr_model.proofs.Members.{mapped_member, member_mapped, each_fails}
@@ -292,8 +292,8 @@ module _ (s : State) (formed : IsFormed s) (known : HasKnownClasses s) where
   of_add guid class parent text values =
       then_some (is_quarantined s.mode) Quarantined
       ∷ then_some (is_fixed guid || holds_guid rows guid) (GuidThere guid)
-      ∷ option_map of_schema (schema_add_refusal (numbered s.store.schema) class values)
-      ∷ option_map of_schema (schema_name_refusal text)
+      ∷ option_map BreaksSchema (schema_add_refusal (numbered s.store.schema) class values)
+      ∷ option_map BreaksSchema (schema_name_refusal text)
       ∷ parent_refusal (nodes_held rows) parent
       ∷ superior_refusal (numbered s.store.schema) (nodes_held rows) class parent
       ∷ option_map NameTaken (name_holder (nodes_held rows) parent text)
@@ -307,7 +307,7 @@ module _ (s : State) (formed : IsFormed s) (known : HasKnownClasses s) where
       then_some (is_quarantined s.mode) Quarantined
       ∷ fixed_refusal guid
       ∷ object_refusal rows (nodes_held rows) guid
-      ∷ option_map of_schema (schema_modify_refusal (numbered s.store.schema) (class_of (nodes_held rows) guid) values)
+      ∷ option_map BreaksSchema (schema_modify_refusal (numbered s.store.schema) (class_of (nodes_held rows) guid) values)
       ∷ first_of (map (λ (g : Given). version_refusal s.store.rows (RowOf (object_of (nodes_held rows) guid) g.0) g.0) values)
       ∷ usn_refusal (s.store.usn + 1)
       ∷ []
@@ -317,7 +317,7 @@ module _ (s : State) (formed : IsFormed s) (known : HasKnownClasses s) where
       then_some (is_quarantined s.mode) Quarantined
       ∷ fixed_refusal guid
       ∷ object_refusal rows (nodes_held rows) guid
-      ∷ option_map of_schema (schema_name_refusal text)
+      ∷ option_map BreaksSchema (schema_name_refusal text)
       ∷ parent_refusal (nodes_held rows) parent
       ∷ loop_refusal (nodes_held rows) guid parent
       ∷ superior_refusal (numbered s.store.schema) (nodes_held rows) (class_of (nodes_held rows) guid) parent
@@ -341,7 +341,7 @@ module _ (s : State) (formed : IsFormed s) (known : HasKnownClasses s) where
       ∷ fixed_refusal from
       ∷ fixed_refusal to
       ∷ object_refusal rows (nodes_held rows) from
-      ∷ option_map of_schema (schema_link_refusal (numbered s.store.schema) (class_of (nodes_held rows) from) attr)
+      ∷ option_map BreaksSchema (schema_link_refusal (numbered s.store.schema) (class_of (nodes_held rows) from) attr)
       ∷ object_refusal rows (nodes_held rows) to
       ∷ wrong (is_linked s.store.rows (link_of (nodes_held rows) from attr to))
       ∷ version_refusal s.store.rows (LinkOf (link_of (nodes_held rows) from attr to)) attr

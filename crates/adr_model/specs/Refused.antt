@@ -63,17 +63,21 @@ schemas_differ mine theirs = outcomes.Refused 31 (codes "SchemaMismatch") (numbe
 abbrev pub rolled_back : List ℕ → ℕ → ℕ → Outcome
 rolled_back inv mine shown = outcomes.Refused 33 (codes "RolledBack") (id_field (codes "inv") inv ∷ number_field (codes "mine") mine ∷ number_field (codes "shown") shown ∷ [])
 
+-- what the schema refuses
+abbrev pub schema_refused : SchemaRefusal → Outcome
+schema_refused schema.UnknownClass = outcomes.Refused 1 (codes "UnknownClass") []
+schema_refused (schema.UnknownAttribute attr) = outcomes.Refused 2 (codes "UnknownAttribute") (attr_field attr ∷ [])
+schema_refused (schema.NotAllowed attr) = outcomes.Refused 3 (codes "NotAllowed") (attr_field attr ∷ [])
+schema_refused (schema.MissingMust attr) = outcomes.Refused 4 (codes "MissingMust") (attr_field attr ∷ [])
+schema_refused (schema.BadValue attr at) = outcomes.Refused 5 (codes "BadValue") (attr_field attr ∷ field (codes "place") (Number at) ∷ [])
+schema_refused (schema.IsLink attr) = outcomes.Refused 6 (codes "IsLink") (attr_field attr ∷ [])
+schema_refused (schema.NotLink attr) = outcomes.Refused 7 (codes "NotLink") (attr_field attr ∷ [])
+schema_refused (schema.BadName at) = outcomes.Refused 9 (codes "BadName") (field (codes "place") (Number at) ∷ [])
+
 -- a refused write
 abbrev pub write_refused : WriteRefusal → Outcome
-write_refused writes.UnknownClass = outcomes.Refused 1 (codes "UnknownClass") []
-write_refused (writes.UnknownAttribute attr) = outcomes.Refused 2 (codes "UnknownAttribute") (attr_field attr ∷ [])
-write_refused (writes.NotAllowed attr) = outcomes.Refused 3 (codes "NotAllowed") (attr_field attr ∷ [])
-write_refused (writes.MissingMust attr) = outcomes.Refused 4 (codes "MissingMust") (attr_field attr ∷ [])
-write_refused (writes.BadValue attr at) = outcomes.Refused 5 (codes "BadValue") (attr_field attr ∷ field (codes "place") (Number at) ∷ [])
-write_refused (writes.IsLink attr) = outcomes.Refused 6 (codes "IsLink") (attr_field attr ∷ [])
-write_refused (writes.NotLink attr) = outcomes.Refused 7 (codes "NotLink") (attr_field attr ∷ [])
+write_refused (writes.Schema refusal) = schema_refused refusal
 write_refused writes.BadSuperior = outcomes.Refused 8 (codes "BadSuperior") []
-write_refused (writes.BadName at) = outcomes.Refused 9 (codes "BadName") (field (codes "place") (Number at) ∷ [])
 write_refused (writes.NoObject guid) = outcomes.Refused 10 (codes "NoObject") (field (codes "guid") (Id guid) ∷ [])
 write_refused (writes.Deleted guid) = outcomes.Refused 11 (codes "Deleted") (field (codes "guid") (Id guid) ∷ [])
 write_refused (writes.NoParent guid) = outcomes.Refused 12 (codes "NoParent") (field (codes "guid") (Id guid) ∷ [])

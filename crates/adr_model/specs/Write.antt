@@ -11,8 +11,6 @@ use Rattle.adr_stamp.specs.declared.LinkKey.{LinkKey}
 use Rattle.adr_stamp.specs.declared.Unit.TheVariants.{Object, Link as OneLink}
 use Rattle.adr_schema.specs.declared.content.Content.{Content}
 use Rattle.adr_schema.specs.declared.content.Content.TheVariants.{Class, Name, Dead, Values}
-use Rattle.adr_schema.specs.declared.refusal.SchemaRefusal.{SchemaRefusal}
-use Rattle.adr_schema.specs.declared.refusal.SchemaRefusal.TheVariants as schema
 use Rattle.adr_schema.specs.declared.table.Kind.{Kind}
 use Rattle.adr_schema.specs.declared.table.Kind.TheVariants.{Forward, Back}
 use Rattle.adr_schema.specs.Assignments.{Given}
@@ -27,8 +25,7 @@ use Rattle.adr_call.specs.declared.directory.Entry.{Entry}
 use Rattle.adr_call.specs.declared.refusal.Table.{Table}
 use Rattle.adr_call.specs.declared.refusal.Table.TheVariants.{Objects, Links, Cursors}
 use Rattle.adr_call.specs.declared.refusal.WriteRefusal.{WriteRefusal}
-use Rattle.adr_call.specs.declared.refusal.WriteRefusal.TheVariants as refusal
-use Rattle.adr_call.specs.declared.refusal.WriteRefusal.TheVariants.{Quarantined, Fixed, NoObject, Deleted, GuidThere, NoParent, BadSuperior, NameTaken, WouldLoop, HasChildren, LinkThere, LinkNotThere, VersionLimit, UsnLimit, Full, SchemaMismatch, NotInImage, StillLive, BirthThere}
+use Rattle.adr_call.specs.declared.refusal.WriteRefusal.TheVariants.{Schema as BreaksSchema, Quarantined, Fixed, NoObject, Deleted, GuidThere, NoParent, BadSuperior, NameTaken, WouldLoop, HasChildren, LinkThere, LinkNotThere, VersionLimit, UsnLimit, Full, SchemaMismatch, NotInImage, StillLive, BirthThere}
 use Rattle.adr_failure.specs.First.{first_of}
 use Rattle.adr_model.specs.Refusing.{unless}
 use Rattle.adr_model.specs.Update.{Identifier, Key, RowOf, LinkOf, Said, Holds, IsPresent, Update, same_identifier, same_object, ends, class_attr, name_attr, deleted_attr}
@@ -73,17 +70,6 @@ write_meant (asked.Link from attr to) = AddLink from attr to
 write_meant (asked.Unlink from attr to) = RemoveLink from attr to
 
 -- ---- refusals
-
--- what the schema refuses, as a refusal of a write
-abbrev pub of_schema : SchemaRefusal → WriteRefusal
-of_schema schema.UnknownClass = refusal.UnknownClass
-of_schema (schema.UnknownAttribute attr) = refusal.UnknownAttribute attr
-of_schema (schema.NotAllowed attr) = refusal.NotAllowed attr
-of_schema (schema.MissingMust attr) = refusal.MissingMust attr
-of_schema (schema.BadValue attr at) = refusal.BadValue attr at
-of_schema (schema.IsLink attr) = refusal.IsLink attr
-of_schema (schema.NotLink attr) = refusal.NotLink attr
-of_schema (schema.BadName at) = refusal.BadName at
 
 -- whether the key is that of a row of an object of this GUID
 abbrev pub is_of_guid : Identifier → Key → Bool
@@ -159,8 +145,8 @@ add_refusals s guid class parent text values =
     let nodes = nodes_held held in
     then_some (is_quarantined s.mode) Quarantined
     ∷ then_some (is_fixed guid || holds_guid held guid) (GuidThere guid)
-    ∷ option_map of_schema (schema_add_refusal (numbered s.store.schema) class values)
-    ∷ option_map of_schema (schema_name_refusal text)
+    ∷ option_map BreaksSchema (schema_add_refusal (numbered s.store.schema) class values)
+    ∷ option_map BreaksSchema (schema_name_refusal text)
     ∷ parent_refusal nodes parent
     ∷ superior_refusal (numbered s.store.schema) nodes class parent
     ∷ option_map NameTaken (name_holder nodes parent text)
@@ -190,7 +176,7 @@ abbrev pub modify_refusals : State → Identifier → List Given → List (Optio
 modify_refusals s guid values =
     let nodes = nodes_held (updates_of s.store.rows) in
     live_refusals s guid
-    ++ option_map of_schema (schema_modify_refusal (numbered s.store.schema) (class_of nodes guid) values)
+    ++ option_map BreaksSchema (schema_modify_refusal (numbered s.store.schema) (class_of nodes guid) values)
     ∷ first_of (map (λ (g : Given). version_refusal s.store.rows (RowOf (object_of nodes guid) g.0) g.0) values)
     ∷ usn_refusal (s.store.usn + 1)
     ∷ []
@@ -202,7 +188,7 @@ abbrev pub rename_refusals : State → Identifier → Identifier → List ℕ �
 rename_refusals s guid parent text =
     let nodes = nodes_held (updates_of s.store.rows) in
     live_refusals s guid
-    ++ option_map of_schema (schema_name_refusal text)
+    ++ option_map BreaksSchema (schema_name_refusal text)
     ∷ parent_refusal nodes parent
     ∷ loop_refusal nodes guid parent
     ∷ superior_refusal (numbered s.store.schema) nodes (class_of nodes guid) parent
@@ -253,7 +239,7 @@ any_link_refusals s from attr to wrong =
     ∷ fixed_refusal from
     ∷ fixed_refusal to
     ∷ object_refusal held nodes from
-    ∷ option_map of_schema (schema_link_refusal (numbered s.store.schema) (class_of nodes from) attr)
+    ∷ option_map BreaksSchema (schema_link_refusal (numbered s.store.schema) (class_of nodes from) attr)
     ∷ object_refusal held nodes to
     ∷ wrong (is_linked s.store.rows (link_of nodes from attr to))
     ∷ version_refusal s.store.rows (LinkOf (link_of nodes from attr to)) attr
@@ -338,7 +324,7 @@ revive_refusals s image guid parent text =
     ∷ then_some (is_none (shown_in image guid)) (NotInImage guid)
     ∷ then_some (is_some (node_at nodes guid)) (StillLive guid)
     ∷ then_some (names_object s.store.rows (new_object s guid)) (BirthThere guid)
-    ∷ option_map of_schema (schema_name_refusal text)
+    ∷ option_map BreaksSchema (schema_name_refusal text)
     ∷ parent_refusal nodes parent
     ∷ then_some (list_any (λ n. same_identifier n.parent guid) (upward nodes (length nodes) parent)) WouldLoop
     ∷ superior_refusal (numbered s.store.schema) nodes (entry_in image guid).class parent

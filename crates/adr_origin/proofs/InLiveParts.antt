@@ -8,11 +8,12 @@ use Rattle.adr_schema.specs.Rules.{modify_refusal as schema_modify_refusal, name
 use Rattle.adr_failure.specs.declared.Failure.{Failure}
 use Rattle.adr_failure.specs.declared.Failure.TheVariants.{Refused, NoMemory}
 use Rattle.adr_call.specs.declared.refusal.WriteRefusal.{WriteRefusal}
+use Rattle.adr_call.specs.declared.refusal.WriteRefusal.TheVariants.{Schema as BreaksSchema}
 use Rattle.adr_model.specs.Place.{Node}
 use Rattle.adr_failure.specs.First.{first_of}
 use Rattle.adr_model.specs.Store.{State, updates_of}
 use Rattle.adr_model.specs.Update.{Identifier, RowOf, name_attr}
-use Rattle.adr_model.specs.Write.{class_of, live_refusals, loop_refusal, modify_refusal, name_refusal, nodes_held, object_of, of_schema, parent_refusal, rename_refusal, superior_refusal, usn_refusal, version_refusal}
+use Rattle.adr_model.specs.Write.{class_of, live_refusals, loop_refusal, modify_refusal, name_refusal, nodes_held, object_of, parent_refusal, rename_refusal, superior_refusal, usn_refusal, version_refusal}
 use Rattle.adr_origin.proofs.FirstOf.{alone, in_two}
 use Rattle.adr_origin.specs.Telling.{Tells}
 use Rattle.adr_origin.specs.NextRows.{versions_refusal}
@@ -33,7 +34,7 @@ module _ (s : State) (guid : Identifier) where
   pub modify_in_parts : (values : List Given) → modify_refusal s guid values ≡ first_of (given_refusal s guid values ∷ rows_refusal s (object_of nodes guid) values ∷ [])
   modify_in_parts values =
       in_two
-      (live_refusals s guid ++ option_map of_schema (schema_modify_refusal (numbered s.store.schema) (class_of nodes guid) values) ∷ [])
+      (live_refusals s guid ++ option_map BreaksSchema (schema_modify_refusal (numbered s.store.schema) (class_of nodes guid) values) ∷ [])
       (versions_refusal s.store.rows (object_of nodes guid) values ∷ usn_refusal (s.store.usn + 1) ∷ [])
 
   pub rename_in_parts : (parent : Identifier) (text : List ℕ)
@@ -41,7 +42,7 @@ module _ (s : State) (guid : Identifier) where
   rename_in_parts parent text = in_two (live_refusals s guid ++ schema ∷ []) (places ++ row) ∙ ap (λ o. first_of (named_refusal s guid text ∷ o ∷ [])) (in_two places row)
     where
       schema : Option WriteRefusal
-      schema = option_map of_schema (schema_name_refusal text)
+      schema = option_map BreaksSchema (schema_name_refusal text)
 
       places : List (Option WriteRefusal)
       places =

@@ -8,7 +8,7 @@ use Rattle.adr_failure.specs.declared.Failure.{Failure}
 use Rattle.adr_failure.specs.declared.Failure.TheVariants.{Refused, NoMemory}
 use Rattle.adr_call.specs.declared.refusal.WriteRefusal.{WriteRefusal}
 use Rattle.adr_call.specs.declared.refusal.Table.TheVariants.{Objects}
-use Rattle.adr_call.specs.declared.refusal.WriteRefusal.TheVariants.{Quarantined, GuidThere, NameTaken}
+use Rattle.adr_call.specs.declared.refusal.WriteRefusal.TheVariants.{Schema as BreaksSchema, Quarantined, GuidThere, NameTaken}
 use Rattle.adr_model.specs.Live.{objects_of}
 use Rattle.adr_model.specs.Place.{is_fixed}
 use Rattle.adr_failure.specs.First.{first_of}
@@ -16,7 +16,7 @@ use Rattle.adr_model.specs.Serve.{is_quarantined}
 use Rattle.adr_model.specs.Shown.{name_holder}
 use Rattle.adr_model.specs.Store.{State, updates_of}
 use Rattle.adr_model.specs.Update.{Identifier}
-use Rattle.adr_model.specs.Write.{add_refusal, cursor_refusal, full_refusal, holds_guid, nodes_held, object_limit, of_schema, parent_refusal, superior_refusal, usn_refusal}
+use Rattle.adr_model.specs.Write.{add_refusal, cursor_refusal, full_refusal, holds_guid, nodes_held, object_limit, parent_refusal, superior_refusal, usn_refusal}
 use Rattle.std.specs.Bool.{then_some}
 use Rattle.adr_origin.proofs.FirstOf.{in_three, first_of_three, second_of_three, third_of_three}
 use Rattle.adr_origin.specs.Telling.{Tells}
@@ -38,8 +38,8 @@ module _ (s : State) (guid : Identifier) (class : ℕ) (parent : Identifier) (te
       in_three
       (then_some (is_quarantined s.mode) Quarantined
       ∷ then_some (is_fixed guid || holds_guid (updates_of s.store.rows) guid) (GuidThere guid)
-      ∷ option_map of_schema (schema_add_refusal (numbered s.store.schema) class values)
-      ∷ option_map of_schema (schema_name_refusal text)
+      ∷ option_map BreaksSchema (schema_add_refusal (numbered s.store.schema) class values)
+      ∷ option_map BreaksSchema (schema_name_refusal text)
       ∷ [])
       (parent_refusal nodes parent
       ∷ superior_refusal (numbered s.store.schema) nodes class parent

@@ -3,12 +3,12 @@ use Rattle.std.proofs.Common.{◌≡◌, ℕ, ◌+◌, Bool, [], ◌∷◌}
 use Rattle.std.specs.Option.{option_map}
 use Rattle.adr_schema.specs.Numbered.{numbered}
 use Rattle.adr_schema.specs.Rules.{link_refusal as schema_link_refusal}
-use Rattle.adr_call.specs.declared.refusal.WriteRefusal.TheVariants.{Quarantined}
+use Rattle.adr_call.specs.declared.refusal.WriteRefusal.TheVariants.{Schema as BreaksSchema, Quarantined}
 use Rattle.adr_failure.specs.First.{first_of}
 use Rattle.adr_model.specs.Serve.{is_quarantined}
 use Rattle.adr_model.specs.Store.{State, updates_of}
 use Rattle.adr_model.specs.Update.{Identifier, LinkOf}
-use Rattle.adr_model.specs.Write.{any_link_refusal, class_of, fixed_refusal, is_linked, link_of, nodes_held, object_refusal, of_schema, usn_refusal, version_refusal}
+use Rattle.adr_model.specs.Write.{any_link_refusal, class_of, fixed_refusal, is_linked, link_of, nodes_held, object_refusal, usn_refusal, version_refusal}
 use Rattle.std.specs.Bool.{then_some}
 use Rattle.adr_origin.proofs.FirstOf.{in_three}
 use Rattle.adr_origin.specs.LinkParts.{already_refusal, ends_refusal, start_refusal, write_refusal}
@@ -21,7 +21,7 @@ link_in_parts s from attr to present =
     in_three
     (then_some (is_quarantined s.mode) Quarantined ∷ fixed_refusal from ∷ fixed_refusal to ∷ [])
     (object_refusal (updates_of s.store.rows) nodes from
-    ∷ option_map of_schema (schema_link_refusal (numbered s.store.schema) (class_of nodes from) attr)
+    ∷ option_map BreaksSchema (schema_link_refusal (numbered s.store.schema) (class_of nodes from) attr)
     ∷ object_refusal (updates_of s.store.rows) nodes to
     ∷ [])
     (already_refusal present (is_linked s.store.rows link) ∷ version_refusal s.store.rows (LinkOf link) attr ∷ usn_refusal (s.store.usn + 1) ∷ [])

@@ -5,13 +5,13 @@ use Rattle.adr_stamp.specs.declared.LinkKey.{LinkKey}
 use Rattle.adr_schema.specs.Numbered.{numbered}
 use Rattle.adr_schema.specs.Rules.{link_refusal as schema_link_refusal}
 use Rattle.adr_call.specs.declared.refusal.WriteRefusal.{WriteRefusal}
-use Rattle.adr_call.specs.declared.refusal.WriteRefusal.TheVariants.{Quarantined, LinkThere, LinkNotThere}
+use Rattle.adr_call.specs.declared.refusal.WriteRefusal.TheVariants.{Schema as BreaksSchema, Quarantined, LinkThere, LinkNotThere}
 use Rattle.adr_model.specs.Place.{Node}
 use Rattle.adr_failure.specs.First.{first_of}
 use Rattle.adr_model.specs.Serve.{is_quarantined}
 use Rattle.adr_model.specs.Store.{Mode, State, updates_of}
 use Rattle.adr_model.specs.Update.{Identifier, LinkOf}
-use Rattle.adr_model.specs.Write.{class_of, fixed_refusal, is_linked, object_refusal, of_schema, usn_refusal, version_refusal}
+use Rattle.adr_model.specs.Write.{class_of, fixed_refusal, is_linked, object_refusal, usn_refusal, version_refusal}
 use Rattle.std.specs.Bool.{then_some}
 
 -- whatever is held
@@ -23,7 +23,7 @@ abbrev pub ends_refusal : State → List Node → Identifier → ℕ → Identif
 ends_refusal s nodes from attr to =
     first_of (
     object_refusal (updates_of s.store.rows) nodes from
-    ∷ option_map of_schema (schema_link_refusal (numbered s.store.schema) (class_of nodes from) attr)
+    ∷ option_map BreaksSchema (schema_link_refusal (numbered s.store.schema) (class_of nodes from) attr)
     ∷ object_refusal (updates_of s.store.rows) nodes to
     ∷ []
     )

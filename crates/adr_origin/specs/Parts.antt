@@ -7,7 +7,7 @@ use Rattle.adr_schema.specs.Table.{Table as Schema}
 use Rattle.adr_schema.specs.Rules.{add_refusal as schema_add_refusal, name_refusal as schema_name_refusal}
 use Rattle.adr_call.specs.declared.refusal.Table.TheVariants.{Objects}
 use Rattle.adr_call.specs.declared.refusal.WriteRefusal.{WriteRefusal}
-use Rattle.adr_call.specs.declared.refusal.WriteRefusal.TheVariants.{Quarantined, GuidThere, NameTaken}
+use Rattle.adr_call.specs.declared.refusal.WriteRefusal.TheVariants.{Schema as BreaksSchema, Quarantined, GuidThere, NameTaken}
 use Rattle.adr_model.specs.Live.{objects_of}
 use Rattle.adr_model.specs.Place.{Node, is_fixed}
 use Rattle.adr_failure.specs.First.{first_of}
@@ -15,7 +15,7 @@ use Rattle.adr_model.specs.Serve.{is_quarantined}
 use Rattle.adr_model.specs.Shown.{name_holder}
 use Rattle.adr_model.specs.Store.{State, updates_of}
 use Rattle.adr_model.specs.Update.{Identifier}
-use Rattle.adr_model.specs.Write.{cursor_refusal, full_refusal, holds_guid, object_limit, of_schema, parent_refusal, superior_refusal, usn_refusal}
+use Rattle.adr_model.specs.Write.{cursor_refusal, full_refusal, holds_guid, object_limit, parent_refusal, superior_refusal, usn_refusal}
 use Rattle.std.specs.Bool.{then_some}
 
 -- wherever it is to stand
@@ -24,8 +24,8 @@ object_refusal s guid class text values =
     first_of (
     then_some (is_quarantined s.mode) Quarantined
     ∷ then_some (is_fixed guid || holds_guid (updates_of s.store.rows) guid) (GuidThere guid)
-    ∷ option_map of_schema (schema_add_refusal (numbered s.store.schema) class values)
-    ∷ option_map of_schema (schema_name_refusal text)
+    ∷ option_map BreaksSchema (schema_add_refusal (numbered s.store.schema) class values)
+    ∷ option_map BreaksSchema (schema_name_refusal text)
     ∷ []
     )
 

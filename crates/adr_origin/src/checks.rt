@@ -3,14 +3,14 @@
 ghost use Rattle.std.specs.Prelude.{◌≡◌, ◌≢◌, ◌||◌, ◌+◌, ◌<◌, IsSome, OnOk, false, length};
 ghost use Rattle.std.specs.Option.{option_map};
 ghost use Rattle.std.specs.Result.{result_err};
-ghost use Rattle.adr_call.specs.declared.refusal.WriteRefusal.TheVariants.{GuidThere as guid_there, Quarantined as quarantined};
+ghost use Rattle.adr_call.specs.declared.refusal.WriteRefusal.TheVariants.{GuidThere as guid_there, Quarantined as quarantined, Schema as breaks_schema};
 ghost use Rattle.adr_call.specs.declared.refusal.Table.TheVariants.{Objects as objects};
 ghost use Rattle.adr_failure.specs.First.{first_of};
 ghost use Rattle.adr_model.specs.Live.{objects_of};
 ghost use Rattle.adr_model.specs.Place.{is_fixed, node_at};
 ghost use Rattle.adr_model.specs.Serve.{is_quarantined};
 ghost use Rattle.adr_model.specs.Store.{row_held, updates_of};
-ghost use Rattle.adr_model.specs.Write.{cursor_refusal, fixed_refusal, full_refusal, holds_guid, live_refusals, nodes_held, object_limit, object_refusal, of_schema, usn_limit, usn_refusal, version_limit, version_of, version_refusal};
+ghost use Rattle.adr_model.specs.Write.{cursor_refusal, fixed_refusal, full_refusal, holds_guid, live_refusals, nodes_held, object_limit, object_refusal, usn_limit, usn_refusal, version_limit, version_of, version_refusal};
 ghost use Rattle.std.specs.Bool.{then_some};
 ghost use Rattle.adr_update.specs.Key.{key_of};
 ghost use Rattle.adr_change.specs.Mode.{mode_of};
@@ -83,30 +83,11 @@ pub fn check_live(state: &State, guid: Guid) -> Result<(), WriteRefusal>
     check_object(state, guid)
 }
 
-/// What the schema refuses, as the refusal of a write.
-fn of_schema(refusal: SchemaRefusal) -> WriteRefusal
-    ensures { result ≡ of_schema refusal }
-{
-    match refusal {
-        SchemaRefusal::UnknownClass => WriteRefusal::UnknownClass,
-        SchemaRefusal::UnknownAttribute { attr } => WriteRefusal::UnknownAttribute { attr },
-        SchemaRefusal::NotAllowed { attr } => WriteRefusal::NotAllowed { attr },
-        SchemaRefusal::MissingMust { attr } => WriteRefusal::MissingMust { attr },
-        SchemaRefusal::BadValue { attr, place } => WriteRefusal::BadValue { attr, place },
-        SchemaRefusal::IsLink { attr } => WriteRefusal::IsLink { attr },
-        SchemaRefusal::NotLink { attr } => WriteRefusal::NotLink { attr },
-        SchemaRefusal::BadName { place } => WriteRefusal::BadName { place },
-    }
-}
-
 /// A test of the schema as a test of a write.
 pub fn check_schema(tested: Result<(), SchemaRefusal>) -> Result<(), WriteRefusal>
-    ensures { result_err result ≡ option_map of_schema (result_err tested) }
+    ensures { result_err result ≡ option_map breaks_schema (result_err tested) }
 {
-    match tested {
-        Ok(()) => Ok(()),
-        Err(refusal) => Err(of_schema(refusal)),
-    }
+    tested.map_err(WriteRefusal::Schema)
 }
 
 /// Tests that the version of a row can rise.

@@ -1,7 +1,7 @@
 //! Refusals as they are answered. None wants memory.
 
 ghost use Rattle.std.specs.Prelude.{◌≡◌, ◌∷◌, [], codes};
-ghost use Rattle.adr_model.specs.Refused.{adopt_refused, attr_field, collect_refused, fault_name, field, full, id_field, number_field, quarantined, rolled_back, schema_name, schemas_differ, serve_refused, table_name, take_refused, write_refused};
+ghost use Rattle.adr_model.specs.Refused.{adopt_refused, attr_field, collect_refused, fault_name, field, full, id_field, number_field, quarantined, rolled_back, schema_name, schema_refused, schemas_differ, serve_refused, table_name, take_refused, write_refused};
 
 use adr_call::{
     AdoptRefusal, CollectRefusal, Field, Fields, ItemFault, Label, Outcome, Plainly, ServeRefusal,
@@ -128,29 +128,34 @@ pub fn full(table: Table, limit: u64) -> Outcome
     refused(22, "Full", fields)
 }
 
+fn schema_refused(refusal: SchemaRefusal) -> Outcome
+    ensures { result ≡ schema_refused refusal }
+{
+    match refusal {
+        SchemaRefusal::UnknownClass => plain(1, "UnknownClass"),
+        SchemaRefusal::UnknownAttribute { attr } => of_attr(2, "UnknownAttribute", attr),
+        SchemaRefusal::NotAllowed { attr } => of_attr(3, "NotAllowed", attr),
+        SchemaRefusal::MissingMust { attr } => of_attr(4, "MissingMust", attr),
+        SchemaRefusal::BadValue { attr, place } => {
+            let fields = Fields::two(attr_field(attr), number_field("place", u64::from(place)));
+            refused(5, "BadValue", fields)
+        },
+        SchemaRefusal::IsLink { attr } => of_attr(6, "IsLink", attr),
+        SchemaRefusal::NotLink { attr } => of_attr(7, "NotLink", attr),
+        SchemaRefusal::BadName { place } => {
+            let fields = Fields::one(number_field("place", u64::from(place)));
+            refused(9, "BadName", fields)
+        },
+    }
+}
+
 /// A refused write as it is answered. It wants no memory, so that an answer can be made behind a change.
 pub fn write_refused(refusal: WriteRefusal) -> Outcome
     ensures { result ≡ write_refused refusal }
 {
     match refusal {
-        WriteRefusal::UnknownClass => plain(1, "UnknownClass"),
-        WriteRefusal::UnknownAttribute { attr } => of_attr(2, "UnknownAttribute", attr),
-        WriteRefusal::NotAllowed { attr } => of_attr(3, "NotAllowed", attr),
-        WriteRefusal::MissingMust { attr } => of_attr(4, "MissingMust", attr),
-        WriteRefusal::BadValue { attr, place } => {
-            let fields = Fields::two(attr_field(attr), number_field("place", u64::from(place)));
-            refused(5, "BadValue", fields)
-        },
-        WriteRefusal::IsLink { attr } => of_attr(6, "IsLink", attr),
-        WriteRefusal::NotLink { attr } => of_attr(7, "NotLink", attr),
+        WriteRefusal::Schema(refusal) => schema_refused(refusal),
         WriteRefusal::BadSuperior => plain(8, "BadSuperior"),
-        WriteRefusal::BadName { place } => {
-            refused(
-                9,
-                "BadName",
-                Fields::one(number_field("place", u64::from(place))),
-            )
-        }
         WriteRefusal::NoObject { guid } => of_id(10, "NoObject", "guid", guid),
         WriteRefusal::Deleted { guid } => of_id(11, "Deleted", "guid", guid),
         WriteRefusal::NoParent { guid } => of_id(12, "NoParent", "guid", guid),

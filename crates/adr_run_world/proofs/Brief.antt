@@ -2,6 +2,7 @@
 use Rattle.std.proofs.Common.{ℕ, ◌≤◌, ◌≡◌, Bool, true, false, List, length, Option, Some, None, Result, Ok, Err, refl}
 use Rattle.std.specs.Prelude.{nat_le}
 use Rattle.std.proofs.lemmas.Bool.{leb-true}
+use Rattle.adr_schema.specs.declared.refusal.SchemaRefusal.{SchemaRefusal}
 use Rattle.adr_schema.specs.declared.refusal.SchemaRefusal.TheVariants as schema
 use Rattle.adr_call.specs.declared.outcome.Outcome.{Outcome}
 use Rattle.adr_call.specs.declared.outcome.Outcome.TheVariants as outcomes
@@ -24,7 +25,7 @@ use Rattle.adr_call.specs.declared.refusal.AdoptRefusal.TheVariants as adopt_ref
 use Rattle.adr_model.specs.Change.{Change}
 use Rattle.adr_model.specs.Collect.{quarantine}
 use Rattle.adr_model.specs.Lengths.{new_log, area_fits, change_fits}
-use Rattle.adr_model.specs.Refused.{adopt_refused, collect_refused, full, serve_refused, take_refused, upgrade_refused, write_refused}
+use Rattle.adr_model.specs.Refused.{adopt_refused, collect_refused, full, schema_refused, serve_refused, take_refused, upgrade_refused, write_refused}
 use Rattle.adr_disk.specs.declared.memory.Mishap.TheVariants.{Fails, Stops}
 use Rattle.adr_model.specs.Replica.{Met, Passed, Pending, Replica, ToCollect, ToQuarantine, ToTake, ToUpgrade, ToWrite, Went, Standing, Up, Down, Failed, commit_goes, outcome_after, start_goes}
 use Rattle.adr_model.specs.Serve.{Reply, Request, serve}
@@ -77,16 +78,19 @@ bad_item_brief place (faults.Schema (schema.NotLink attr)) = brief _ tt refl
 bad_item_brief place (faults.Schema (schema.BadName at)) = brief _ tt refl
 bad_item_brief place faults.WrongBirth = brief _ tt refl
 
+schema_brief : (r : SchemaRefusal) → IsBrief (schema_refused r)
+schema_brief schema.UnknownClass = brief _ tt refl
+schema_brief (schema.UnknownAttribute attr) = brief _ tt refl
+schema_brief (schema.NotAllowed attr) = brief _ tt refl
+schema_brief (schema.MissingMust attr) = brief _ tt refl
+schema_brief (schema.BadValue attr place) = brief _ tt refl
+schema_brief (schema.IsLink attr) = brief _ tt refl
+schema_brief (schema.NotLink attr) = brief _ tt refl
+schema_brief (schema.BadName place) = brief _ tt refl
+
 write_brief : (r : WriteRefusal) → IsBrief (write_refused r)
-write_brief write_refusals.UnknownClass = brief _ tt refl
-write_brief (write_refusals.UnknownAttribute attr) = brief _ tt refl
-write_brief (write_refusals.NotAllowed attr) = brief _ tt refl
-write_brief (write_refusals.MissingMust attr) = brief _ tt refl
-write_brief (write_refusals.BadValue attr place) = brief _ tt refl
-write_brief (write_refusals.IsLink attr) = brief _ tt refl
-write_brief (write_refusals.NotLink attr) = brief _ tt refl
+write_brief (write_refusals.Schema refusal) = schema_brief refusal
 write_brief write_refusals.BadSuperior = brief _ tt refl
-write_brief (write_refusals.BadName place) = brief _ tt refl
 write_brief (write_refusals.NoObject guid) = brief _ tt refl
 write_brief (write_refusals.Deleted guid) = brief _ tt refl
 write_brief (write_refusals.NoParent guid) = brief _ tt refl

@@ -1,6 +1,7 @@
 -- Refused writes.
 use Rattle.std.specs.Prelude.{List, [], ◌∷◌, map, Option, Some, None, codes}
 use Rattle.adr_schema.specs.declared.content.Value.TheVariants.{Text}
+use Rattle.adr_schema.specs.declared.refusal.SchemaRefusal.TheVariants.{UnknownClass, UnknownAttribute, NotAllowed, MissingMust, BadValue, IsLink, NotLink, BadName}
 use Rattle.adr_call.specs.declared.refusal.WriteRefusal.{WriteRefusal}
 use Rattle.adr_call.specs.declared.refusal.WriteRefusal.TheVariants as refused
 use Rattle.adr_model.specs.Place.{identifier, root}
@@ -33,15 +34,15 @@ by_the_schema =
 
 abbrev pub by_the_schema_told : List (Option WriteRefusal)
 by_the_schema_told =
-    Some refused.UnknownClass
-    ∷ Some (refused.UnknownAttribute 99)
-    ∷ Some (refused.NotAllowed 20)
-    ∷ Some (refused.MissingMust 10)
-    ∷ Some (refused.BadValue 15 0)
-    ∷ Some (refused.IsLink 32)
-    ∷ Some (refused.NotLink 13)
+    Some (refused.Schema UnknownClass)
+    ∷ Some (refused.Schema (UnknownAttribute 99))
+    ∷ Some (refused.Schema (NotAllowed 20))
+    ∷ Some (refused.Schema (MissingMust 10))
+    ∷ Some (refused.Schema (BadValue 15 0))
+    ∷ Some (refused.Schema (IsLink 32))
+    ∷ Some (refused.Schema (NotLink 13))
     ∷ Some refused.BadSuperior
-    ∷ Some (refused.BadName 0)
+    ∷ Some (refused.Schema (BadName 0))
     ∷ []
 
 abbrev pub by_the_tree : List Write

@@ -28,7 +28,7 @@ fn errors_say_what_a_schedule_prints(rt: HostRuntime) {
     );
     says(
         &rt,
-        WriteRefusal::BadValue { attr: 9, place: 1 },
+        WriteRefusal::Schema(SchemaRefusal::BadValue { attr: 9, place: 1 }),
         "BadValue attr=%9 place=1",
     );
     says(

@@ -3,7 +3,8 @@ use Rattle.std.proofs.lemmas.Result.{err_from_is_err_and}
 use Rattle.std.specs.Option.{option_map}
 use Rattle.std.specs.Result.{result_err}
 use Rattle.adr_schema.specs.Rules.{name_refusal}
-use Rattle.adr_model.specs.Write.{live_refusals, of_schema}
+use Rattle.adr_call.specs.declared.refusal.WriteRefusal.TheVariants.{Schema as BreaksSchema}
+use Rattle.adr_model.specs.Write.{live_refusals}
 use Rattle.adr_origin.proofs.FirstOf.{in_front}
 use Rattle.adr_origin.proofs.InLiveParts.{first_told, second_told}
 use Rattle.adr_origin.proofs.renaming.check_named.Goals as goal
@@ -15,5 +16,5 @@ returns-in_err-check_live c =
 
 pub returns : goal.returns
 returns c =
-    let told : result_err c.check_schema.result ≡ option_map of_schema (name_refusal c.args.text.now) = search rules in
+    let told : result_err c.check_schema.result ≡ option_map BreaksSchema (name_refusal c.args.text.now) = search rules in
     told ∙ (second_told _ _ c.in_ok-check_live.ensures.told ∙ sym (in_front (live_refusals c.args.state.now c.args.guid) _))
