@@ -17,18 +17,13 @@ use std::alloc::Global;
 fn entry_json(alloc: Global, entry: &Entry) -> Result<Json, NoMemory>
     ensures { IfOk result (λ json. view json ≡ entry_json entry.now) }
 {
-    let class = class_text(alloc, entry.class)?;
-    let guid = identifier_json(alloc, entry.guid)?;
-    let links = links_json(alloc, entry.links.items())?;
-    let parent = identifier_json(alloc, entry.parent)?;
-    let values = attributes_json(alloc, entry.values.items())?;
     json!(in alloc; {
-        "class": class,
-        "guid": guid,
-        "links": links,
+        "class": class_text(alloc, entry.class)?,
+        "guid": identifier_json(alloc, entry.guid)?,
+        "links": links_json(alloc, entry.links.items())?,
         "name": entry.name.as_str(),
-        "parent": parent,
-        "values": values
+        "parent": identifier_json(alloc, entry.parent)?,
+        "values": attributes_json(alloc, entry.values.items())?
     })
 }
 
