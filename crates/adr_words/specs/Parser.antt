@@ -1,7 +1,8 @@
 -- The parser of the words, as `clap` sees it: a command with a subcommand for each entry of the table.
-use Rattle.std.specs.Prelude.{ℕ, List, [], true, false, map, codes}
+use Rattle.std.specs.Prelude.{ℕ, List, [], true, false, fold, map, codes}
 use Rattle.clap.specs.Words.{App, Rule, Shape, new_rule, with_subcommand}
 use Rattle.clap.specs.Simple.{new_shape}
+use Rattle.adr_words.specs.declared.parser.Subcommand.{Subcommand}
 use Rattle.adr_words.specs.Commands.{COUNT, DSA, Entry, Form, N, NAME, PORT, commands}
 
 -- the identifier of an argument
@@ -21,6 +22,9 @@ leaf word ids = record (new_shape word) { rules = map argument ids }
 
 abbrev pub with_leaf : App → List ℕ → List (List ℕ) → App
 with_leaf parser word ids = with_subcommand parser (leaf word ids)
+
+abbrev pub with_leaves : App → List Subcommand → App
+with_leaves parser leaves = fold (λ p l. with_leaf p l.word.now (map (λ id. id.now) l.ids.now)) parser leaves
 
 -- no flag, no command but those of the table, and one of these is wanted
 abbrev pub top : Shape

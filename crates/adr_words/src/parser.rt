@@ -3,11 +3,32 @@
 ghost use Rattle.std.specs.Prelude.{◌≡◌, IfOk, false, map};
 ghost use Rattle.clap.specs.Words.{app_of, shape_of};
 ghost use Rattle.clap.specs.declared.builder.command.Command.TheViews.{out-Command};
-ghost use Rattle.adr_words.specs.Parser.{bare, leaf, parser, with_leaf};
+ghost use Rattle.adr_words.specs.Parser.{bare, leaf, parser, with_leaf, with_leaves};
 
 use adr_failure::NoMemory;
 use clap::{Arg, Command};
 use std::alloc::Global;
+
+/// A subcommand's word, and the names of the words that it wants behind it.
+struct Subcommand {
+    word: &'static str,
+    ids: &'static [&'static str],
+}
+
+#[rattlefmt::skip]
+static SUBCOMMANDS: [Subcommand; 11] = [
+    Subcommand { word: "replay", ids: &[] },
+    Subcommand { word: "exercise", ids: &["N"] },
+    Subcommand { word: "create", ids: &["NAME"] },
+    Subcommand { word: "install", ids: &["NAME"] },
+    Subcommand { word: "restore", ids: &["NAME", "DSA"] },
+    Subcommand { word: "backup", ids: &["NAME"] },
+    Subcommand { word: "show", ids: &["NAME"] },
+    Subcommand { word: "export", ids: &["NAME"] },
+    Subcommand { word: "serve", ids: &["NAME", "PORT", "COUNT"] },
+    Subcommand { word: "pull", ids: &["NAME", "PORT"] },
+    Subcommand { word: "send", ids: &["PORT"] },
+];
 
 /// A subcommand with these arguments, each at its place.
 fn leaf<'a>(alloc: Global, word: &'a str, ids: &[&'a str]) -> Result<Command<'a>, NoMemory>
@@ -44,19 +65,31 @@ fn bare<'a>(alloc: Global) -> Command<'a>
         .subcommand_required(true)
 }
 
+/// The parser with these subcommands too.
+fn with_leaves<'a>(
+    alloc: Global,
+    parser: Command<'a>,
+    leaves: &'static [Subcommand],
+) -> Result<Command<'a>, NoMemory>
+    ensures { IfOk result (λ c. app_of c ≡ with_leaves (app_of parser.entry) leaves.now) }
+{
+    let mut parser = parser;
+    for leaf in leaves {
+        parser = with_leaf(alloc, parser, leaf.word, leaf.ids)?;
+    }
+    Ok(parser)
+}
+
+/// The subcommands of the words.
+fn subcommands() -> &'static [Subcommand]
+    ensures { with_leaves bare result.now ≡ parser }
+{
+    &SUBCOMMANDS
+}
+
 /// The parser of the words.
 pub fn parser<'a>(alloc: Global) -> Result<Command<'a>, NoMemory>
     ensures { IfOk result (λ c. app_of c ≡ parser) }
 {
-    let parser = with_leaf(alloc, bare(alloc), "replay", &[])?;
-    let parser = with_leaf(alloc, parser, "exercise", &["N"])?;
-    let parser = with_leaf(alloc, parser, "create", &["NAME"])?;
-    let parser = with_leaf(alloc, parser, "install", &["NAME"])?;
-    let parser = with_leaf(alloc, parser, "restore", &["NAME", "DSA"])?;
-    let parser = with_leaf(alloc, parser, "backup", &["NAME"])?;
-    let parser = with_leaf(alloc, parser, "show", &["NAME"])?;
-    let parser = with_leaf(alloc, parser, "export", &["NAME"])?;
-    let parser = with_leaf(alloc, parser, "serve", &["NAME", "PORT", "COUNT"])?;
-    let parser = with_leaf(alloc, parser, "pull", &["NAME", "PORT"])?;
-    with_leaf(alloc, parser, "send", &["PORT"])
+    with_leaves(alloc, bare(alloc), subcommands())
 }
