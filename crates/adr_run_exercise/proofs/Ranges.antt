@@ -4,11 +4,17 @@ use Rattle.std.specs.List.{range_with_len, flat_map}
 use Rattle.std.proofs.lemmas.List.{map-id, append-nil}
 use Rattle.std.proofs.lemmas.List.Concat.{flat_map-append}
 use Rattle.std.proofs.lemmas.List.FromFn.{map-range_with_len_more}
+use Rattle.adr_event.specs.declared.event.Event.{Event}
 use Rattle.adr_run_exercise.specs.Generated.{round, rounds}
 
-pub rounds_more : (n : ℕ) → rounds (n + 1) ≡ rounds n ++ round
+rounds_more : (n : ℕ) → rounds (n + 1) ≡ rounds n ++ round
 unfolding rounds
 rounds_more n = rw add-one refl
+
+-- one more round stands at the end
+pub grown_by_round : (n : ℕ) (start before after : List Event) → before ≡ start ++ rounds n → after ≡ before ++ round → after ≡ start ++ rounds (n + 1)
+grown_by_round n start before after b a =
+    a ∙ ap (λ xs. xs ++ round) b ∙ append_assoc start (rounds n) round ∙ ap (λ xs. start ++ xs) (sym (rounds_more n))
 
 range_more : (k : ℕ) → range_with_len 0 (k + 1) ≡ range_with_len 0 k ++ k ∷ []
 range_more k = sym (map-id (range_with_len 0 (k + 1))) ∙ map-range_with_len_more (λ (x : ℕ). x) 0 k k (omega arith) ∙ ap (λ xs. xs ++ k ∷ []) (map-id (range_with_len 0 k))

@@ -129,7 +129,7 @@ fn push_round(alloc: Global, events: &mut Vec<Event>) -> Result<(), NoMemory>
 }
 
 /// Adds so many rounds of cycles.
-#[tactic(auto, using(crate::proofs::Ranges::rounds_more), unfolding(crate::specs::Generated::rounds))]
+#[tactic(auto, unfolding(crate::specs::Generated::rounds))]
 pub fn push_rounds(alloc: Global, events: &mut Vec<Event>, count: u32) -> Result<(), NoMemory>
     ensures { OnOk result (events.new.items ≡ events.old.items ++ rounds count) }
 {
