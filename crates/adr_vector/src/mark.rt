@@ -4,7 +4,7 @@ use std::fmt;
 
 /// How far the changes of one incarnation of a partner have been read (after MS-DRSR, USN_VECTOR). All three are
 /// update sequence numbers of the partner. How they move is this project's own profile.
-#[derive(Clone, Copy, Debug)]
+#[derive(Clone, Copy)]
 pub struct Mark {
     /// Up to here every changed object has been read (usnHighObjUpdate).
     pub obj: u64,
