@@ -5,7 +5,7 @@ ghost use Rattle.serde_json.specs.View.{items_of, view};
 ghost use Rattle.serde_json.specs.Written.{comma_if, compact_text, items_text};
 ghost use Rattle.adr_json.specs.Text.{entry_json, json_text};
 
-use crate::objects::{attributes_json, links_json};
+use crate::objects::object_json;
 use crate::values::{class_text, identifier_json};
 use adr_call::{Directory, Entry};
 use adr_schema::NoMemory;
@@ -19,9 +19,9 @@ fn entry_json(alloc: Global, entry: &Entry) -> Result<Json, NoMemory>
 {
     let class = class_text(alloc, entry.class)?;
     let guid = identifier_json(alloc, entry.guid)?;
-    let links = links_json(alloc, entry.links.items())?;
+    let links = object_json(alloc, entry.links.items())?;
     let parent = identifier_json(alloc, entry.parent)?;
-    let values = attributes_json(alloc, entry.values.items())?;
+    let values = object_json(alloc, entry.values.items())?;
     json!(in alloc; {
         "class": class,
         "guid": guid,
