@@ -5,6 +5,7 @@ ghost use Rattle.adr_token.specs.Spelling.{identifier_token, text_token, class_t
 ghost use Rattle.adr_answers.specs.Line.{listed, values_text, links_text, entry_line};
 
 use crate::each::{PushText, push_each};
+use crate::knowledge::push_identifier_behind;
 use adr_call::{Entry, Guids};
 use adr_guid::Guid;
 use adr_schema::{NoMemory, Values};
@@ -35,8 +36,7 @@ fn push_further_guids(out: &mut Vec<u8>, guids: &[Guid]) -> Result<(), NoMemory>
         ≡ out.old.items ++ flat_map (λ (i : List ℕ). codes "," ++ identifier_token i) guids.now) }
 {
     for guid in guids {
-        push(out, b",")?;
-        push_identifier(out, *guid)?;
+        push_identifier_behind(out, b",", *guid)?;
     }
     Ok(())
 }
@@ -70,8 +70,7 @@ fn push_head(out: &mut Vec<u8>, entry: &Entry) -> Result<(), NoMemory>
         ≡ out.old.items
         ++ (codes "  " ++ identifier_token entry.now.guid ++ codes " " ++ class_token entry.now.class)) }
 {
-    push(out, b"  ")?;
-    push_identifier(out, entry.guid)?;
+    push_identifier_behind(out, b"  ", entry.guid)?;
     push(out, b" ")?;
     push_class(out, entry.class)
 }
@@ -82,8 +81,7 @@ fn push_place(out: &mut Vec<u8>, entry: &Entry) -> Result<(), NoMemory>
         ≡ out.old.items
         ++ (codes " parent=" ++ identifier_token entry.now.parent ++ codes " name=" ++ text_token entry.now.name)) }
 {
-    push(out, b" parent=")?;
-    push_identifier(out, entry.parent)?;
+    push_identifier_behind(out, b" parent=", entry.parent)?;
     push(out, b" name=")?;
     push_text(out, entry.name.items())
 }

@@ -21,6 +21,14 @@ pub fn push_number_behind(out: &mut Vec<u8>, text: &[u8], number: u64) -> Result
     push_number(out, number)
 }
 
+/// Adds an identifier behind some text.
+pub fn push_identifier_behind(out: &mut Vec<u8>, text: &[u8], id: Guid) -> Result<(), NoMemory>
+    ensures { OnOk result (out.new.items ≡ out.old.items ++ (text.now ++ identifier_token id)) }
+{
+    push(out, text)?;
+    push_identifier(out, id)
+}
+
 /// Adds a mark.
 #[tactic(auto, unfolding(crate::specs::Line::mark_text))]
 pub fn push_mark(out: &mut Vec<u8>, mark: Mark) -> Result<(), NoMemory>
@@ -36,8 +44,7 @@ pub fn push_mark(out: &mut Vec<u8>, mark: Mark) -> Result<(), NoMemory>
 fn push_first_identifier(out: &mut Vec<u8>, id: Guid) -> Result<(), NoMemory>
     ensures { OnOk result (out.new.items ≡ out.old.items ++ (codes "  " ++ identifier_token id ++ codes " ")) }
 {
-    push(out, b"  ")?;
-    push_identifier(out, id)?;
+    push_identifier_behind(out, b"  ", id)?;
     push(out, b" ")
 }
 

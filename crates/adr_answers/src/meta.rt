@@ -6,11 +6,11 @@ ghost use Rattle.adr_token.specs.Spelling.{attribute_token, identifier_token, te
 ghost use Rattle.adr_answers.specs.Line.{life_text, meta_line};
 
 use crate::each::PushText;
-use crate::knowledge::push_number_behind;
+use crate::knowledge::{push_identifier_behind, push_number_behind};
 use adr_call::{Birth, Life, MetaLine, Stamp, Text};
 use adr_guid::Guid;
 use adr_schema::NoMemory;
-use adr_token::{push, push_attribute, push_identifier, push_text};
+use adr_token::{push, push_attribute, push_text};
 
 fn life_text(life: Life) -> &'static [u8]
     ensures { result.now ≡ life_text life }
@@ -26,8 +26,7 @@ fn push_birth(out: &mut Vec<u8>, inv: Guid, usn: u64) -> Result<(), NoMemory>
     ensures { OnOk result (out.new.items
         ≡ out.old.items ++ (codes " birth=" ++ identifier_token inv ++ codes "/" ++ decimal usn)) }
 {
-    push(out, b" birth=")?;
-    push_identifier(out, inv)?;
+    push_identifier_behind(out, b" birth=", inv)?;
     push_number_behind(out, b"/", usn)
 }
 
@@ -59,8 +58,7 @@ fn push_origin(out: &mut Vec<u8>, time: u64, inv: Guid) -> Result<(), NoMemory>
         ≡ out.old.items ++ (codes " time=" ++ decimal time ++ codes " inv=" ++ identifier_token inv)) }
 {
     push_number_behind(out, b" time=", time)?;
-    push(out, b" inv=")?;
-    push_identifier(out, inv)
+    push_identifier_behind(out, b" inv=", inv)
 }
 
 fn push_row(out: &mut Vec<u8>, attr: u16, stamp: Stamp, local: u64) -> Result<(), NoMemory>

@@ -12,14 +12,12 @@ use Rattle.adr_model.specs.Store.{State}
 use Rattle.adr_node.specs.Begins.{IsUnbegun}
 use Rattle.adr_node.specs.Seen.{of_disk}
 use Rattle.adr_node.specs.Looks.{Due, Looks, backup_bytes, due_of, export_bytes, never, refuses_backup, show_bytes}
-use Rattle.adr_node.specs.Makes.{Makes, TellsVerdict, Verdict, as_installed}
+use Rattle.adr_node.specs.Makes.{Makes, TellsVerdict, Verdict}
 use Rattle.adr_node.specs.declared.ended.Unbegun.TheVariants as unbegun
-use Rattle.adr_node.specs.declared.ended.BackedUp.{BackedUp}
-use Rattle.adr_node.specs.declared.ended.BackedUp.TheVariants as looks
-use Rattle.adr_node.specs.declared.ended.Created.{Created}
-use Rattle.adr_node.specs.declared.ended.Created.TheVariants as creates
-use Rattle.adr_node.specs.declared.ended.Installed.{Installed}
-use Rattle.adr_node.specs.declared.ended.Installed.TheVariants as makes
+use Rattle.adr_node.specs.declared.ended.Looked.{Looked}
+use Rattle.adr_node.specs.declared.ended.Looked.TheVariants as looks
+use Rattle.adr_node.specs.declared.ended.Creation.{Creation}
+use Rattle.adr_node.specs.declared.ended.Creation.TheVariants as makes
 use Rattle.adr_node.proofs.Started.{unbegun_looks, wanting}
 use Rattle.adr_node.proofs.Mirrored.{kept_leaves}
 use Rattle.adr_node.proofs.Formatted.{always}
@@ -29,26 +27,26 @@ use Rattle.adr_cmd.specs.OnDisk.{AdoptedSo, AtHand, DoesSo, HasCauses, LooksSo, 
 
 -- ---- commands that only look: which ending has a status
 
-look_write : (how : BackedUp) → status_of_look how ≡ 5 → how ≡ looks.WriteFault
+look_write : (how : Looked) → status_of_look how ≡ 5 → how ≡ looks.WriteFault
 look_write looks.WriteFault is = refl
 look_write how is = absurd (omega (arith, is))
 
-look_disk : (how : BackedUp) → status_of_look how ≡ 6 → how ≡ looks.DiskFault
+look_disk : (how : Looked) → status_of_look how ≡ 6 → how ≡ looks.DiskFault
 look_disk looks.DiskFault is = refl
 look_disk how is = absurd (omega (arith, is))
 
 -- nothing is read
-look_unread : (how : BackedUp) → status_of_look how ≡ 4 → ⊥
+look_unread : (how : Looked) → status_of_look how ≡ 4 → ⊥
 look_unread looks.Done is = omega (arith, is)
 look_unread how is = omega (arith, is)
 
 -- and nothing drawn
-look_undrawn : (how : BackedUp) → status_of_look how ≡ 13 → ⊥
+look_undrawn : (how : Looked) → status_of_look how ≡ 13 → ⊥
 look_undrawn looks.Done is = omega (arith, is)
 look_undrawn how is = omega (arith, is)
 
 pub look_causes : {S K D F : Type 0} {s : SourceGhosts S} {k : SinkGhosts K} {d : DiskGhosts D} {f : FreshGhosts F} {due : Started State → Due} {source : S} {fresh : F}
-    {old new : D} {before after : K} {r : ℕ} {how : BackedUp} → r ≡ status_of_look how → Looks (of_disk d) k due old new before after how
+    {old new : D} {before after : K} {r : ℕ} {how : Looked} → r ≡ status_of_look how → Looks (of_disk d) k due old new before after how
     → HasCauses s k d f (record { source = source; sink = before; disk = old; fresh = fresh }) (record { source = source; sink = after; disk = new; fresh = fresh }) r
 look_causes {how = how} is l = record {
   read = λ e. absurd (look_unread how (sym is ∙ e));
@@ -64,42 +62,33 @@ look_causes {how = how} is l = record {
 
 -- ---- commands that make a controller
 
-making_read : (how : Installed) → status_of_making how ≡ 4 → how ≡ makes.ReadFault
+making_read : (how : Creation) → status_of_making how ≡ 4 → how ≡ makes.ReadFault
 making_read makes.ReadFault is = refl
 making_read how is = absurd (omega (arith, is))
 
-making_write : (how : Installed) → status_of_making how ≡ 5 → how ≡ makes.WriteFault
+making_write : (how : Creation) → status_of_making how ≡ 5 → how ≡ makes.WriteFault
 making_write makes.WriteFault is = refl
 making_write how is = absurd (omega (arith, is))
 
-making_disk : (how : Installed) → status_of_making how ≡ 6 → how ≡ makes.DiskFault
+making_disk : (how : Creation) → status_of_making how ≡ 6 → how ≡ makes.DiskFault
 making_disk makes.DiskFault is = refl
 making_disk how is = absurd (omega (arith, is))
 
-making_draw : (how : Installed) → status_of_making how ≡ 13 → how ≡ makes.FreshFault
+making_draw : (how : Creation) → status_of_making how ≡ 13 → how ≡ makes.FreshFault
 making_draw makes.FreshFault is = refl
 making_draw how is = absurd (omega (arith, is))
 
--- a new controller is made of nothing that is read
-pub created_unread : (how : Created) → as_installed how ≡ makes.ReadFault → ⊥
-created_unread creates.Done is = cc
-created_unread how is = cc
-
-pub created_draw : (how : Created) → as_installed how ≡ makes.FreshFault → how ≡ creates.FreshFault
-created_draw creates.FreshFault is = refl
-created_draw how is = absurd (cc)
-
 module _ {K : Type 0} (k : SinkGhosts K) (verb name : List ℕ) where
-  told_write : (verdict : Option Verdict) (before after : K) (how : Installed) → TellsVerdict k verb name verdict before after how → how ≡ makes.WriteFault → k.faults before < k.faults after
+  told_write : (verdict : Option Verdict) (before after : K) (how : Creation) → TellsVerdict k verb name verdict before after how → how ≡ makes.WriteFault → k.faults before < k.faults after
   told_write None before after how t e = absurd (t.2 e)
   told_write (Some v) before after how t e = t.2 e
 
-  told_unwritten : (verdict : Option Verdict) (before after : K) (how : Installed) → TellsVerdict k verb name verdict before after how → how ≡ makes.ReadFault → after ≡ before
+  told_unwritten : (verdict : Option Verdict) (before after : K) (how : Creation) → TellsVerdict k verb name verdict before after how → how ≡ makes.ReadFault → after ≡ before
   told_unwritten None before after how t e = t.0
   told_unwritten (Some v) before after how t e = absurd (t.3 (inl e))
 
 pub making_causes : {S K D F : Type 0} {s : SourceGhosts S} {k : SinkGhosts K} {d : DiskGhosts D} {f : FreshGhosts F} {comes : Verdict → Type 0} {verb name : List ℕ} {unread left : S}
-    {old new : D} {before after : K} {first last : F} {r : ℕ} {how : Installed} → r ≡ status_of_making how → Makes d k comes verb name old new before after how
+    {old new : D} {before after : K} {first last : F} {r : ℕ} {how : Creation} → r ≡ status_of_making how → Makes d k comes verb name old new before after how
     → (how ≡ makes.ReadFault → s.faults unread < s.faults left) → s.faults unread ≤ s.faults left → k.faults before ≤ k.faults after
     → (how ≡ makes.FreshFault → f.faults first < f.faults last) → f.faults first ≤ f.faults last
     → HasCauses s k d f (record { source = unread; sink = before; disk = old; fresh = first }) (record { source = left; sink = after; disk = new; fresh = last }) r

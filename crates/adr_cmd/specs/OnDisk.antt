@@ -10,10 +10,10 @@ use Rattle.adr_law_journal.specs.Areas.{Started}
 use Rattle.adr_node.specs.Seen.{of_disk}
 use Rattle.adr_node.specs.Looks.{Due, Looks, backup_bytes, due_of, export_bytes, never, refuses_backup, show_bytes}
 use Rattle.adr_node.specs.Makes.{Adopts, IsNew, Makes, Verdict}
-use Rattle.adr_node.specs.declared.ended.BackedUp.{BackedUp}
-use Rattle.adr_node.specs.declared.ended.BackedUp.TheVariants as looks
-use Rattle.adr_node.specs.declared.ended.Installed.{Installed}
-use Rattle.adr_node.specs.declared.ended.Installed.TheVariants as makes
+use Rattle.adr_node.specs.declared.ended.Looked.{Looked}
+use Rattle.adr_node.specs.declared.ended.Looked.TheVariants as looks
+use Rattle.adr_node.specs.declared.ended.Creation.{Creation}
+use Rattle.adr_node.specs.declared.ended.Creation.TheVariants as makes
 use Rattle.adr_words.specs.declared.kinds.DiskCommand.{DiskCommand}
 use Rattle.adr_words.specs.declared.kinds.DiskCommand.TheVariants.{Create, Install, Restore, Backup, Show, Export}
 
@@ -26,7 +26,7 @@ pub record AtHand (S K D F : Type 0) : Type 0 where
 
 -- ---- the status
 
-abbrev pub status_of_look : BackedUp → ℕ
+abbrev pub status_of_look : Looked → ℕ
 status_of_look looks.Done = 0
 status_of_look looks.WriteFault = 5
 status_of_look looks.DiskFault = 6
@@ -34,7 +34,7 @@ status_of_look looks.NoMemory = 8
 status_of_look looks.Refused = 9
 status_of_look (looks.Damaged place) = 10
 
-abbrev pub status_of_making : Installed → ℕ
+abbrev pub status_of_making : Creation → ℕ
 status_of_making makes.Done = 0
 status_of_making makes.ReadFault = 4
 status_of_making makes.WriteFault = 5
@@ -48,12 +48,12 @@ status_of_making makes.FreshFault = 13
 -- a command that only looks reads nothing, and draws no identifier
 abbrev pub LooksSo : {S K D F : Type 0} → SinkGhosts K → DiskGhosts D → (Started State → Due) → AtHand S K D F → AtHand S K D F → ℕ → Type 0
 LooksSo k d due before after status =
-    (how : BackedUp) × (status ≡ status_of_look how) × Looks (of_disk d) k due before.disk after.disk before.sink after.sink how
+    (how : Looked) × (status ≡ status_of_look how) × Looks (of_disk d) k due before.disk after.disk before.sink after.sink how
     × (after.source ≡ before.source) × (after.fresh ≡ before.fresh)
 
 abbrev pub MakesSo : {S K D F : Type 0} → SinkGhosts K → DiskGhosts D → (Verdict → Type 0) → List ℕ → List ℕ → AtHand S K D F → AtHand S K D F → ℕ → Type 0
 MakesSo k d comes verb name before after status =
-    (how : Installed) × (status ≡ status_of_making how) × Makes d k comes verb name before.disk after.disk before.sink after.sink how
+    (how : Creation) × (status ≡ status_of_making how) × Makes d k comes verb name before.disk after.disk before.sink after.sink how
 
 -- a fault has its cause, and no count of faults falls
 pub record HasCauses {S K D F : Type 0} (s : SourceGhosts S) (k : SinkGhosts K) (d : DiskGhosts D) (f : FreshGhosts F) (before after : AtHand S K D F)

@@ -1,72 +1,41 @@
 //! The commands over a disk.
 
 ghost use Rattle.std.specs.Prelude.{◌≡◌};
-ghost use Rattle.adr_node.specs.Looks.{in_full};
-ghost use Rattle.adr_node.specs.Makes.{as_installed};
 ghost use Rattle.adr_cmd.specs.OnDisk.{DoesSo, HasCauses, status_of_look, status_of_making};
 
 use adr_disk::Disk;
 use adr_io::{Sink, Source};
-use adr_node::{
-    BackedUp, Created, Installed, Looked, backup, create, export, install, restore, show,
-};
+use adr_node::{Creation, Looked, Sight, adopt, create, look};
 use adr_outside::Fresh;
 use adr_words::DiskCommand;
 use std::alloc::Global;
 
-/// The status of a command that only looked, and isn't refused.
+/// The status of a command that only looked.
 fn looked(how: Looked) -> u8
-    ensures { result ≡ status_of_look (in_full how) }
+    ensures { result ≡ status_of_look how }
 {
     match how {
         Looked::Done => 0,
         Looked::WriteFault => 5,
         Looked::DiskFault => 6,
         Looked::NoMemory => 8,
+        Looked::Refused => 9,
         Looked::Damaged { .. } => 10,
     }
 }
 
-/// The status of a backup.
-fn backed_up(how: BackedUp) -> u8
-    ensures { result ≡ status_of_look how }
-{
-    match how {
-        BackedUp::Done => 0,
-        BackedUp::WriteFault => 5,
-        BackedUp::DiskFault => 6,
-        BackedUp::NoMemory => 8,
-        BackedUp::Refused => 9,
-        BackedUp::Damaged { .. } => 10,
-    }
-}
-
-/// The status of a command that made a new controller, or didn't.
-fn created(how: Created) -> u8
-    ensures { result ≡ status_of_making (as_installed how) }
-{
-    match how {
-        Created::Done => 0,
-        Created::WriteFault => 5,
-        Created::DiskFault => 6,
-        Created::NoMemory => 8,
-        Created::Refused => 9,
-        Created::FreshFault => 13,
-    }
-}
-
-/// The status of a command that made a controller of an image, or didn't.
-fn installed(how: Installed) -> u8
+/// The status of a command that made a controller, or didn't.
+fn made(how: Creation) -> u8
     ensures { result ≡ status_of_making how }
 {
     match how {
-        Installed::Done => 0,
-        Installed::ReadFault => 4,
-        Installed::WriteFault => 5,
-        Installed::DiskFault => 6,
-        Installed::NoMemory => 8,
-        Installed::Refused(_) => 9,
-        Installed::FreshFault => 13,
+        Creation::Done => 0,
+        Creation::ReadFault => 4,
+        Creation::WriteFault => 5,
+        Creation::DiskFault => 6,
+        Creation::NoMemory => 8,
+        Creation::Refused(_) => 9,
+        Creation::FreshFault => 13,
     }
 }
 
@@ -89,26 +58,35 @@ pub fn perform<S: Source, K: Sink, D: Disk, F: Fresh>(
     match command {
         DiskCommand::Create { name } => {
             let (how, disk) = create(alloc, name, disk, fresh, sink);
-            (created(how), disk)
+            (made(how), disk)
         }
         DiskCommand::Install { name } => {
-            let (how, disk) = install(alloc, name, source, disk, fresh, sink);
-            (installed(how), disk)
+            let (how, disk) = adopt(alloc, "install", name, None, source, disk, fresh, sink);
+            (made(how), disk)
         }
         DiskCommand::Restore { name, dsa } => {
-            let (how, disk) = restore(alloc, name, *dsa, source, disk, fresh, sink);
-            (installed(how), disk)
+            let (how, disk) = adopt(
+                alloc,
+                "restore",
+                name,
+                Some(*dsa),
+                source,
+                disk,
+                fresh,
+                sink,
+            );
+            (made(how), disk)
         }
         DiskCommand::Backup { name } => {
-            let (how, disk) = backup(alloc, name, disk, sink);
-            (backed_up(how), disk)
+            let (how, disk) = look(alloc, Sight::Image, name, disk, sink);
+            (looked(how), disk)
         }
         DiskCommand::Show { name } => {
-            let (how, disk) = show(alloc, name, disk, sink);
+            let (how, disk) = look(alloc, Sight::Directory, name, disk, sink);
             (looked(how), disk)
         }
         DiskCommand::Export { name } => {
-            let (how, disk) = export(alloc, name, disk, sink);
+            let (how, disk) = look(alloc, Sight::Json, name, disk, sink);
             (looked(how), disk)
         }
     }

@@ -23,22 +23,16 @@ use Rattle.adr_dial.specs.declared.ended.Pulled.TheVariants as pulls
 use Rattle.adr_dial.proofs.Cycled.{Fallen, Up, pulls_less}
 
 write_unpulled : (why : Unbegun) → unpulled why ≡ pulls.WriteFault → why ≡ unbegun.WriteFault
-write_unpulled (unbegun.Damaged place) is = absurd (cc is)
 write_unpulled unbegun.WriteFault is = refl
-write_unpulled unbegun.DiskFault is = absurd (cc is)
-write_unpulled unbegun.NoMemory is = absurd (cc is)
+write_unpulled why is = absurd (cc is)
 
 disk_unpulled : (why : Unbegun) → unpulled why ≡ pulls.DiskFault → why ≡ unbegun.DiskFault
-disk_unpulled (unbegun.Damaged place) is = absurd (cc is)
-disk_unpulled unbegun.WriteFault is = absurd (cc is)
 disk_unpulled unbegun.DiskFault is = refl
-disk_unpulled unbegun.NoMemory is = absurd (cc is)
+disk_unpulled why is = absurd (cc is)
 
 link_unpulled : (why : Unbegun) → unpulled why ≡ pulls.LinkFault → ⊥
-link_unpulled (unbegun.Damaged place) is = cc
 link_unpulled unbegun.WriteFault is = cc
-link_unpulled unbegun.DiskFault is = cc
-link_unpulled unbegun.NoMemory is = cc
+link_unpulled why is = cc
 
 module _ {D N S : Type 0} (d : Seen D) (n : NetGhosts N) (k : SinkGhosts S) (name : List ℕ) (old new : Hands D N S) where
   pub leaves_as_before : (there : Started State) → LeavesOnly d.moment d.left_since old.disk new.disk (d.may_leave old.disk)

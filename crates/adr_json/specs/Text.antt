@@ -26,13 +26,20 @@ value_json (Ref id) = identifier_json id
 abbrev pub array_by : {A : Type 0} → (A → Data) → List A → Data
 array_by f xs = array (items_of (map f xs))
 
--- the members with an attribute among them: an array under the attribute's name
-abbrev pub with_attribute : {A : Type 0} → (A → Data) → Members → ℕ × List A → Members
-with_attribute f members a = put (attribute_token a.0) (array_by f a.1) members
+-- the members with an attribute among them, under the attribute's name
+abbrev pub with_member : {A : Type 0} → (A → Data) → Members → ℕ × A → Members
+with_member f members a = put (attribute_token a.0) (f a.1) members
 
 -- an object with a member for each attribute, in the order of their names' bytes
+abbrev pub object_of : {A : Type 0} → (A → Data) → List (ℕ × A) → Data
+object_of f attributes = object (fold (with_member f) no_members attributes)
+
+-- each is an array
+abbrev pub with_attribute : {A : Type 0} → (A → Data) → Members → ℕ × List A → Members
+with_attribute f members a = with_member (array_by f) members a
+
 abbrev pub object_by : {A : Type 0} → (A → Data) → List (ℕ × List A) → Data
-object_by f attributes = object (fold (with_attribute f) no_members attributes)
+object_by f attributes = object_of (array_by f) attributes
 
 -- an entry
 unfoldable pub entry_json : Entry → Data

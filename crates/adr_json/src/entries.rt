@@ -5,7 +5,7 @@ ghost use Rattle.serde_json.specs.View.{items_of, view};
 ghost use Rattle.serde_json.specs.Written.{comma_if, compact_text, items_text};
 ghost use Rattle.adr_json.specs.Text.{entry_json, json_text};
 
-use crate::objects::{attributes_json, links_json};
+use crate::objects::object_json;
 use crate::values::{class_text, identifier_json};
 use adr_call::{Directory, Entry};
 use adr_schema::NoMemory;
@@ -20,10 +20,10 @@ fn entry_json(alloc: Global, entry: &Entry) -> Result<Json, NoMemory>
     json!(in alloc; {
         "class": class_text(alloc, entry.class)?,
         "guid": identifier_json(alloc, entry.guid)?,
-        "links": links_json(alloc, entry.links.items())?,
+        "links": object_json(alloc, entry.links.items())?,
         "name": entry.name.as_str(),
         "parent": identifier_json(alloc, entry.parent)?,
-        "values": attributes_json(alloc, entry.values.items())?
+        "values": object_json(alloc, entry.values.items())?
     })
 }
 

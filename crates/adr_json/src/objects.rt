@@ -1,9 +1,9 @@
 //! The attributes of an entry as JSON.
 
-ghost use Rattle.std.specs.Prelude.{◌≡◌, IfOk, OnOk, fold};
-ghost use Rattle.serde_json.specs.Data.{no_members};
+ghost use Rattle.std.specs.Prelude.{◌≡◌, IfOk, OnOk};
+ghost use Rattle.serde_json.specs.Data.{Data};
 ghost use Rattle.serde_json.specs.View.{members_view, view};
-ghost use Rattle.adr_json.specs.Text.{array_by, identifier_json, object_by, value_json, with_attribute};
+ghost use Rattle.adr_json.specs.Text.{array_by, identifier_json, object_of, value_json, with_member};
 
 use crate::values::{attribute_text, identifier_json, value_json};
 use adr_call::Guids;
@@ -12,74 +12,81 @@ use adr_schema::{NoMemory, Value, Values};
 use serde_json::{Map, Value as Json};
 use std::alloc::Global;
 
-fn identifiers_json(alloc: Global, ids: &[Guid]) -> Result<Json, NoMemory>
-    ensures { IfOk result (λ json. view json ≡ array_by identifier_json ids.now) }
+/// What has a form as JSON.
+pub trait ToJson {
+    ghost json: { Self → Data };
+
+    fn to_json(&self, alloc: Global) -> Result<Json, NoMemory>
+        ensures { IfOk result (λ value. view value ≡ json self.now) };
+}
+
+impl ToJson for Guid {
+    ghost json = { identifier_json };
+
+    fn to_json(&self, alloc: Global) -> Result<Json, NoMemory> {
+        identifier_json(alloc, *self)
+    }
+}
+
+impl ToJson for Value {
+    ghost json = { value_json };
+
+    fn to_json(&self, alloc: Global) -> Result<Json, NoMemory> {
+        value_json(alloc, self)
+    }
+}
+
+/// An array of these.
+fn array_json<T: ToJson>(alloc: Global, list: &[T]) -> Result<Json, NoMemory>
+    ensures { IfOk result (λ value. view value ≡ array_by T.json list.now) }
 {
     let mut items = Vec::new(alloc);
-    for id in ids {
-        items.push(identifier_json(alloc, *id)?)?;
+    for item in list {
+        items.push(item.to_json(alloc)?)?;
     }
     Ok(Json::Array(items))
 }
 
-fn values_json(alloc: Global, values: &[Value]) -> Result<Json, NoMemory>
-    ensures { IfOk result (λ json. view json ≡ array_by value_json values.now) }
-{
-    let mut items = Vec::new(alloc);
-    for value in values {
-        items.push(value_json(alloc, value)?)?;
+// The identifiers at the other ends of a link attribute.
+impl ToJson for Guids {
+    ghost json = { array_by identifier_json };
+
+    fn to_json(&self, alloc: Global) -> Result<Json, NoMemory> {
+        array_json(alloc, self.items())
     }
-    Ok(Json::Array(items))
 }
 
-/// Adds a link attribute with the identifiers at its other ends.
-fn put_link(
+// The values of an attribute.
+impl ToJson for Values {
+    ghost json = { array_by value_json };
+
+    fn to_json(&self, alloc: Global) -> Result<Json, NoMemory> {
+        array_json(alloc, self.items())
+    }
+}
+
+/// Adds an attribute with what it has.
+fn put_attribute<T: ToJson>(
     alloc: Global,
     members: &mut Map<String, Json>,
     attr: u16,
-    ends: &Guids,
+    what: &T,
 ) -> Result<(), NoMemory>
     ensures { OnOk result (members_view members.new.entries
-        ≡ with_attribute identifier_json (members_view members.old.entries) (attr, ends.now)) }
+        ≡ with_member T.json (members_view members.old.entries) (attr, what.now)) }
 {
     let name = attribute_text(alloc, attr)?;
-    let ends = identifiers_json(alloc, ends.items())?;
-    serde_json::put(members, alloc, name.as_str(), ends)
+    let what = what.to_json(alloc)?;
+    serde_json::put(members, alloc, name.as_str(), what)
 }
 
-/// Adds an attribute with its values.
-fn put_values(
-    alloc: Global,
-    members: &mut Map<String, Json>,
-    attr: u16,
-    values: &Values,
-) -> Result<(), NoMemory>
-    ensures { OnOk result (members_view members.new.entries
-        ≡ with_attribute value_json (members_view members.old.entries) (attr, values.now)) }
-{
-    let name = attribute_text(alloc, attr)?;
-    let values = values_json(alloc, values.items())?;
-    serde_json::put(members, alloc, name.as_str(), values)
-}
-
-/// Link attributes, each with the identifiers at its other ends.
-pub fn links_json(alloc: Global, links: &[(u16, Guids)]) -> Result<Json, NoMemory>
-    ensures { IfOk result (λ json. view json ≡ object_by identifier_json links.now) }
+/// An object of attributes, each with what it has.
+pub fn object_json<T: ToJson>(alloc: Global, attributes: &[(u16, T)]) -> Result<Json, NoMemory>
+    ensures { IfOk result (λ value. view value ≡ object_of T.json attributes.now) }
 {
     let mut members = Map::new(alloc);
-    for (attr, ends) in links {
-        put_link(alloc, &mut members, *attr, ends)?;
-    }
-    Ok(Json::Object(members))
-}
-
-/// Attributes, each with its values.
-pub fn attributes_json(alloc: Global, attributes: &[(u16, Values)]) -> Result<Json, NoMemory>
-    ensures { IfOk result (λ json. view json ≡ object_by value_json attributes.now) }
-{
-    let mut members = Map::new(alloc);
-    for (attr, values) in attributes {
-        put_values(alloc, &mut members, *attr, values)?;
+    for (attr, what) in attributes {
+        put_attribute(alloc, &mut members, *attr, what)?;
     }
     Ok(Json::Object(members))
 }

@@ -12,8 +12,8 @@ use Rattle.adr_node.specs.Seen.{Mirrors, of_disk}
 use Rattle.adr_node.specs.Formats.{EndsFormat}
 use Rattle.adr_model.specs.Update.{Identifier}
 use Rattle.adr_node.specs.Makes.{Adopts, BeforeOrBegun, Begins, HasNone, IsVerdict, MadeOn, Makes, TellsVerdict, Verdict, verdict_of}
-use Rattle.adr_node.specs.declared.ended.Installed.{Installed}
-use Rattle.adr_node.specs.declared.ended.Installed.TheVariants as installs
+use Rattle.adr_node.specs.declared.ended.Creation.{Creation}
+use Rattle.adr_node.specs.declared.ended.Creation.TheVariants as installs
 use Rattle.adr_node.specs.declared.ended.Refusal.{Refusal}
 use Rattle.adr_node.specs.declared.ended.Refusal.TheVariants.{NotEmpty, Image, Adoption, Full}
 use Rattle.adr_node.specs.declared.making.Unmade.{Unmade}
@@ -95,7 +95,7 @@ refused_so d given text before after old (Image why) none comes = (none, comes)
 refused_so d given text before after old (Adoption why) none comes = (none, comes)
 
 -- and its line was written
-pub makes_told : {D K T : Type 0} (d : DiskGhosts D) (k : SinkGhosts K) (comes : Verdict → Type 0) (verb name : List ℕ) (old new : D) (before after : K) (made : Result T Unmade) (how : Installed)
+pub makes_told : {D K T : Type 0} (d : DiskGhosts D) (k : SinkGhosts K) (comes : Verdict → Type 0) (verb name : List ℕ) (old new : D) (before after : K) (made : Result T Unmade) (how : Creation)
     → MadeOn d comes old new made → ((s : State) → TellsVerdict k verb name (verdict_of s made) before after how) → (how ≡ installs.DiskFault → made ≡ Err unmade.DiskFault) → (made ≡ Err unmade.DiskFault → how ≡ installs.DiskFault) → Makes d k comes verb name old new before after how
 makes_told d k comes verb name old new before after made how m tells fault faulty = record {
   verdict = verdict_of m.state made;

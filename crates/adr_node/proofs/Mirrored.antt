@@ -13,7 +13,7 @@ use Rattle.adr_records.specs.Body.{following_in}
 use Rattle.adr_node.specs.Seen.{Seen, of_disk, Mirrors}
 use Rattle.adr_node.specs.Begins.{EndsUnbegun, IsDamaged, IsHindered, IsUnbegun, StandsOn}
 use Rattle.adr_node.specs.Looks.{Due, Looks}
-use Rattle.adr_node.specs.declared.ended.BackedUp.{BackedUp}
+use Rattle.adr_node.specs.declared.ended.Looked.{Looked}
 use Rattle.adr_node.specs.declared.ended.Unbegun.{Unbegun}
 
 -- what two calls keep
@@ -100,7 +100,7 @@ module _ {D E : Type 0} (d : Seen D) (e : Seen E) (old new : D) (from to : E) (f
       disk_later = omega (arith, first.faults, last.faults, u.disk_later);
     }
 
-  pub looks_over : {K : Type 0} (k : SinkGhosts K) (due : Started State → Due) (before after : K) (how : BackedUp) → Looks e k due from to before after how → Looks d k due old new before after how
+  pub looks_over : {K : Type 0} (k : SinkGhosts K) (due : Started State → Due) (before after : K) (how : Looked) → Looks e k due from to before after how → Looks d k due old new before after how
   looks_over k due before after how l = record {
     found = l.found;
     is_found = told_over (λ t. t ≡ l.found) l.is_found;

@@ -15,9 +15,9 @@ use Rattle.adr_controller.specs.Running.{IsInOrder, Running}
 use Rattle.adr_node.specs.Seen.{Seen, of_keeper}
 use Rattle.adr_node.specs.Begins.{Begun, IsDamaged, IsHindered, IsUnbegun, TellsDamage, TellsRefusal}
 use Rattle.adr_node.specs.Lines.{damaged_line}
-use Rattle.adr_node.specs.Looks.{Looks, Tells, IsWhole, due_of, never, unseen}
-use Rattle.adr_node.specs.declared.ended.BackedUp.{BackedUp}
-use Rattle.adr_node.specs.declared.ended.BackedUp.TheVariants as backed
+use Rattle.adr_node.specs.Looks.{Looks, Tells, IsWhole, due_of, unseen}
+use Rattle.adr_node.specs.declared.ended.Looked.{Looked}
+use Rattle.adr_node.specs.declared.ended.Looked.TheVariants as backed
 use Rattle.adr_node.specs.declared.ended.Unbegun.{Unbegun}
 use Rattle.adr_node.specs.declared.ended.Unbegun.TheVariants as unbegun
 use Rattle.adr_node.proofs.Writes.{all_added, no_fewer, tells_disk_fault, tells_no_memory}
@@ -158,7 +158,7 @@ module _ {D K : Type 0} (d : Seen D) (k : SinkGhosts K) (refuses : State → Boo
 -- one that began with a controller
 module _ {K S : Type 0} (k : KeeperGhosts K) (sink : SinkGhosts S) (refuses : State → Bool) (bytes : State → List ℕ) where
   pub started_looks : (law : (x : K) (f : Found State) → k.is_at x f → k.is_failed x ≡ false → IfSome (k.told x) (λ t. t ≡ Ok f))
-      → (old : K) (c : Running K) (before after : S) (how : BackedUp) (b : Begun k old c) → IsInOrder k c
+      → (old : K) (c : Running K) (before after : S) (how : Looked) (b : Begun k old c) → IsInOrder k c
       → Tells sink (due_of refuses bytes (Ok (found b.started.state b.started.log))) before after how → IsLogged b.started.state → (how ≡ backed.DiskFault → ⊥)
       → Looks (of_keeper k) sink (due_of refuses bytes) old c.keeper before after how
   started_looks law old c before after how b order tells logged passed =
@@ -175,11 +175,3 @@ module _ {K S : Type 0} (k : KeeperGhosts K) (sink : SinkGhosts S) (refuses : St
         any_moment = b.any_moment;
         left = b.left;
       }
-
--- what is never refused
-pub never_refuses : {D K : Type 0} (d : Seen D) (k : SinkGhosts K) (by : State → List ℕ) (old new : D) (before after : K) (how : BackedUp) → Looks d k (due_of never by) old new before after how → how ≡ backed.Refused → ⊥
-never_refuses d k by old new before after how l is = clash l.found (sym is ∙ (l.tells.whole (subst IsWhole (sym is) tt)).0)
-  where
-    clash : (f : Started State) → backed.Refused ≡ (due_of never by f).ends → ⊥
-    clash (Ok f) e = absurd (cc e)
-    clash (Err place) e = absurd (cc e)

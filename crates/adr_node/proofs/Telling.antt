@@ -3,14 +3,14 @@ use Rattle.std.proofs.Common.{◌≡◌, sym, ap, subst, ℕ, List, Result, Ok, 
 use Rattle.adr_io.specs.declared.Sink.{Ghosts as SinkGhosts}
 use Rattle.adr_model.specs.Store.{State}
 use Rattle.adr_node.specs.Makes.{IsWritten, TellsVerdict, verdict_of}
-use Rattle.adr_node.specs.declared.ended.Installed.{Installed}
-use Rattle.adr_node.specs.declared.ended.Installed.TheVariants as installs
+use Rattle.adr_node.specs.declared.ended.Creation.{Creation}
+use Rattle.adr_node.specs.declared.ended.Creation.TheVariants as installs
 use Rattle.adr_node.specs.declared.ended.Refusal.{Refusal}
 use Rattle.adr_node.specs.declared.making.Unmade.{Unmade}
 use Rattle.adr_node.specs.declared.making.Unmade.TheVariants as unmade
 
 -- where a refusal was written, the controller wasn't made for it
-pub told_refusal : {K T : Type 0} (k : SinkGhosts K) (verb name : List ℕ) (s : State) (made : Result T Unmade) (before after : K) (how : Installed) (why : Refusal)
+pub told_refusal : {K T : Type 0} (k : SinkGhosts K) (verb name : List ℕ) (s : State) (made : Result T Unmade) (before after : K) (how : Creation) (why : Refusal)
     → TellsVerdict k verb name (verdict_of s made) before after how → how ≡ installs.Refused why → made ≡ Err (unmade.Refused why)
 told_refusal k verb name s (Ok done) before after how why told is = absurd (cc (is, (told.0 (subst IsWritten (sym is) tt)).0))
 told_refusal {K} {T} k verb name s (Err (unmade.Refused because)) before after how why told is =

@@ -7,8 +7,8 @@ use Rattle.adr_io.specs.declared.Fault.TheVariants.{Failed, NoMemory}
 use Rattle.adr_io.specs.Told.{Adds, AddsFront}
 use Rattle.adr_io.specs.declared.Sink.{Ghosts as SinkGhosts}
 use Rattle.adr_node.specs.Looks.{Due, Tells, IsWhole, whole_of}
-use Rattle.adr_node.specs.declared.ended.BackedUp.{BackedUp}
-use Rattle.adr_node.specs.declared.ended.BackedUp.TheVariants as backed
+use Rattle.adr_node.specs.declared.ended.Looked.{Looked}
+use Rattle.adr_node.specs.declared.ended.Looked.TheVariants as backed
 
 pub nothing_added : (w : Option (List ℕ)) (bytes : List ℕ) → AddsFront w w bytes
 nothing_added None bytes = tt
@@ -26,7 +26,7 @@ module _ {K : Type 0} (k : SinkGhosts K) where
   no_fewer before after same = let e : k.faults after ≡ k.faults before = ap k.faults same in omega (arith, e)
 
   -- where nothing was written
-  pub tells_none : (due : Due) (before after : K) (how : BackedUp) → after ≡ before → (IsWhole how → ⊥) → (how ≡ backed.WriteFault → ⊥) → Tells k due before after how
+  pub tells_none : (due : Due) (before after : K) (how : Looked) → after ≡ before → (IsWhole how → ⊥) → (how ≡ backed.WriteFault → ⊥) → Tells k due before after how
   tells_none due before after how same part passed = record {
     whole = λ is. absurd (part is);
     front = none_written before after due.bytes same;
@@ -34,10 +34,10 @@ module _ {K : Type 0} (k : SinkGhosts K) where
     later = no_fewer before after same;
   }
 
-  pub tells_no_memory : (due : Due) (before after : K) (how : BackedUp) → after ≡ before → how ≡ backed.NoMemory → Tells k due before after how
+  pub tells_no_memory : (due : Due) (before after : K) (how : Looked) → after ≡ before → how ≡ backed.NoMemory → Tells k due before after how
   tells_no_memory due before after how same is = tells_none due before after how same (λ whole. subst IsWhole is whole) (λ fault. cc (sym is ∙ fault))
 
-  pub tells_disk_fault : (due : Due) (before after : K) (how : BackedUp) → after ≡ before → how ≡ backed.DiskFault → Tells k due before after how
+  pub tells_disk_fault : (due : Due) (before after : K) (how : Looked) → after ≡ before → how ≡ backed.DiskFault → Tells k due before after how
   tells_disk_fault due before after how same is = tells_none due before after how same (λ whole. subst IsWhole is whole) (λ fault. cc (sym is ∙ fault))
 
 pub whole_is_no_write_fault : (b : Bool) → whole_of b ≡ backed.WriteFault → ⊥
@@ -73,7 +73,7 @@ module _ {K V E T : Type 0} (k : SinkGhosts K) (items : V → List ℕ) (bytes :
 
 module _ {K T : Type 0} (k : SinkGhosts K) (due : Due) (before after : K) where
   -- so a command ends
-  pub tells_so : (written : Result T Fault) (how : BackedUp) → OnOk written (Adds (k.written before) (k.written after) due.bytes) → AddsFront (k.written before) (k.written after) due.bytes
+  pub tells_so : (written : Result T Fault) (how : Looked) → OnOk written (Adds (k.written before) (k.written after) due.bytes) → AddsFront (k.written before) (k.written after) due.bytes
       → k.faults before ≤ k.faults after → (IsErrOf written Failed → k.faults before < k.faults after)
       → OnOk written (how ≡ due.ends) → (IsErrOf written Failed → how ≡ backed.WriteFault) → (IsErrOf written NoMemory → how ≡ backed.NoMemory) → (due.ends ≡ backed.WriteFault → ⊥) → Tells k due before after how
   tells_so (Ok t) how all front later failed done of_failed of_none passed = record { whole = λ is. (done, all); front = front; write_fault = λ is. absurd (passed (sym done ∙ is)); later = later }
@@ -82,7 +82,7 @@ module _ {K T : Type 0} (k : SinkGhosts K) (due : Due) (before after : K) where
   tells_so (Err NoMemory) how all front later failed done of_failed of_none passed =
       record { whole = λ is. absurd (subst IsWhole (of_none refl) is); front = front; write_fault = λ is. absurd (cc (sym (of_none refl) ∙ is)); later = later }
 
-pub no_disk_fault : {T : Type 0} (written : Result T Fault) (whole how : BackedUp) → OnOk written (how ≡ whole) → (IsErrOf written Failed → how ≡ backed.WriteFault) → (IsErrOf written NoMemory → how ≡ backed.NoMemory) → (whole ≡ backed.DiskFault → ⊥) → how ≡ backed.DiskFault → ⊥
+pub no_disk_fault : {T : Type 0} (written : Result T Fault) (whole how : Looked) → OnOk written (how ≡ whole) → (IsErrOf written Failed → how ≡ backed.WriteFault) → (IsErrOf written NoMemory → how ≡ backed.NoMemory) → (whole ≡ backed.DiskFault → ⊥) → how ≡ backed.DiskFault → ⊥
 no_disk_fault (Ok t) whole how done of_failed of_none passed is = passed (sym done ∙ is)
 no_disk_fault (Err Failed) whole how done of_failed of_none passed is = absurd (cc (sym (of_failed refl) ∙ is))
 no_disk_fault (Err NoMemory) whole how done of_failed of_none passed is = absurd (cc (sym (of_none refl) ∙ is))

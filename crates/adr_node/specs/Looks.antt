@@ -20,12 +20,10 @@ use Rattle.adr_node.specs.Begins.{Begun}
 use Rattle.adr_node.specs.Seen.{Seen, of_keeper}
 use Rattle.adr_node.specs.declared.ended.Unbegun.{Unbegun}
 use Rattle.adr_node.specs.declared.ended.Unbegun.TheVariants as unbegun
-use Rattle.adr_node.specs.declared.ended.BackedUp.{BackedUp}
-use Rattle.adr_node.specs.declared.ended.BackedUp.TheVariants as backed
 use Rattle.adr_node.specs.declared.ended.Looked.{Looked}
-use Rattle.adr_node.specs.declared.ended.Looked.TheVariants as looks
-use Rattle.adr_node.specs.declared.waking.Sight.{Sight}
-use Rattle.adr_node.specs.declared.waking.Sight.TheVariants.{Directory, Json, Image}
+use Rattle.adr_node.specs.declared.ended.Looked.TheVariants as backed
+use Rattle.adr_node.specs.declared.sights.Sight.{Sight}
+use Rattle.adr_node.specs.declared.sights.Sight.TheVariants.{Directory, Json, Image}
 
 -- ---- what is written of a state
 
@@ -66,11 +64,11 @@ refuses Image = refuses_backup
 
 -- what a command has to write, and how it then ends
 pub record Due : Type 0 where
-  pub ends : BackedUp
+  pub ends : Looked
   pub bytes : List ℕ
 
 -- all of a state
-abbrev pub whole_of : Bool → BackedUp
+abbrev pub whole_of : Bool → Looked
 whole_of is_refused = if is_refused then backed.Refused else backed.Done
 
 -- of what a start finds
@@ -79,7 +77,7 @@ due_of refuses bytes (Ok f) = record { ends = whole_of (refuses f.state); bytes 
 due_of refuses bytes (Err place) = record { ends = backed.Damaged place; bytes = damaged_line place }
 
 -- all that was due is written
-abbrev pub IsWhole : BackedUp → Type 0
+abbrev pub IsWhole : Looked → Type 0
 IsWhole backed.Done = Unit {0}
 IsWhole backed.Refused = Unit {0}
 IsWhole (backed.Damaged place) = Unit {0}
@@ -87,16 +85,8 @@ IsWhole backed.WriteFault = ⊥
 IsWhole backed.DiskFault = ⊥
 IsWhole backed.NoMemory = ⊥
 
--- a command that is never refused
-abbrev pub in_full : Looked → BackedUp
-in_full looks.Done = backed.Done
-in_full (looks.Damaged place) = backed.Damaged place
-in_full looks.WriteFault = backed.WriteFault
-in_full looks.DiskFault = backed.DiskFault
-in_full looks.NoMemory = backed.NoMemory
-
 -- what was written, and how that ended
-pub record Tells {K : Type 0} (k : SinkGhosts K) (due : Due) (before after : K) (how : BackedUp) : Type 0 where
+pub record Tells {K : Type 0} (k : SinkGhosts K) (due : Due) (before after : K) (how : Looked) : Type 0 where
   -- all of it, and so the command ends; or a front of it
   pub whole : IsWhole how → (how ≡ due.ends) × Adds (k.written before) (k.written after) due.bytes
   pub front : AddsFront (k.written before) (k.written after) due.bytes
@@ -104,7 +94,7 @@ pub record Tells {K : Type 0} (k : SinkGhosts K) (due : Due) (before after : K) 
   pub later : k.faults before ≤ k.faults after
 
 -- how a command ends that had no controller to look at
-abbrev pub unseen : Unbegun → BackedUp
+abbrev pub unseen : Unbegun → Looked
 unseen (unbegun.Damaged place) = backed.Damaged place
 unseen unbegun.WriteFault = backed.WriteFault
 unseen unbegun.DiskFault = backed.DiskFault
@@ -112,7 +102,7 @@ unseen unbegun.NoMemory = backed.NoMemory
 
 -- The controller on a disk is started, and something is written of it.
 pub record Looks {D K : Type 0} (d : Seen D) (k : SinkGhosts K) (due : Started State → Due) (old new : D) (before after : K)
-    (how : BackedUp) : Type 0 where
+    (how : Looked) : Type 0 where
   -- what the start finds, which is what the bytes of the disk are, where it tells them
   pub found : Started State
   pub is_found : IfSome (d.told old) (λ t. t ≡ found)
@@ -129,6 +119,6 @@ pub record Looks {D K : Type 0} (d : Seen D) (k : SinkGhosts K) (due : Started S
   pub left : Among (d.may_leave old) (d.may_leave new)
 
 -- something is written of a controller, from whatever keeper it was started
-abbrev pub LooksOn : {K S : Type 0} → KeeperGhosts K → SinkGhosts S → (Started State → Due) → Running K → K → S → S → BackedUp → Type 0
+abbrev pub LooksOn : {K S : Type 0} → KeeperGhosts K → SinkGhosts S → (Started State → Due) → Running K → K → S → S → Looked → Type 0
 LooksOn {K} k s due c new before after how =
     (keeper : K) → Begun k keeper c → Looks (of_keeper k) s due keeper new before after how

@@ -23,10 +23,8 @@ use Rattle.adr_node.specs.Lines.{malformed_line, not_empty_line, refusal_line, v
 use Rattle.adr_node.specs.Seen.{Seen, StandsNew, of_disk}
 use Rattle.adr_node.specs.declared.ended.Refusal.{Refusal}
 use Rattle.adr_node.specs.declared.ended.Refusal.TheVariants.{NotEmpty, Image, Adoption, Full}
-use Rattle.adr_node.specs.declared.ended.Created.{Created}
-use Rattle.adr_node.specs.declared.ended.Created.TheVariants as creates
-use Rattle.adr_node.specs.declared.ended.Installed.{Installed}
-use Rattle.adr_node.specs.declared.ended.Installed.TheVariants as installs
+use Rattle.adr_node.specs.declared.ended.Creation.{Creation}
+use Rattle.adr_node.specs.declared.ended.Creation.TheVariants as installs
 use Rattle.adr_node.specs.declared.making.Unmade.{Unmade}
 use Rattle.adr_node.specs.declared.making.Unmade.TheVariants as unmade
 
@@ -56,12 +54,12 @@ verdict_line verb name (Err why) = refused_line why
 
 -- ---- how a command ends
 
-abbrev pub ends_so : Verdict → Installed
+abbrev pub ends_so : Verdict → Creation
 ends_so (Ok s) = installs.Done
 ends_so (Err why) = installs.Refused why
 
 -- the verdict is written
-abbrev pub IsWritten : Installed → Type 0
+abbrev pub IsWritten : Creation → Type 0
 IsWritten installs.Done = Unit {0}
 IsWritten (installs.Refused why) = Unit {0}
 IsWritten installs.ReadFault = ⊥
@@ -69,15 +67,6 @@ IsWritten installs.WriteFault = ⊥
 IsWritten installs.DiskFault = ⊥
 IsWritten installs.FreshFault = ⊥
 IsWritten installs.NoMemory = ⊥
-
--- a command that reads no image can be refused for its disk alone
-abbrev pub as_installed : Created → Installed
-as_installed creates.Done = installs.Done
-as_installed creates.Refused = installs.Refused NotEmpty
-as_installed creates.WriteFault = installs.WriteFault
-as_installed creates.DiskFault = installs.DiskFault
-as_installed creates.FreshFault = installs.FreshFault
-as_installed creates.NoMemory = installs.NoMemory
 
 -- ---- where a state comes from
 
@@ -143,7 +132,7 @@ IsVerdict d comes old (Err (Image why)) = HasNone d old × comes (Err (Image why
 IsVerdict d comes old (Err (Adoption why)) = HasNone d old × comes (Err (Adoption why))
 
 -- what was written of a verdict, if there is one, and how that ended
-abbrev pub TellsVerdict : {K : Type 0} → SinkGhosts K → List ℕ → List ℕ → Option Verdict → K → K → Installed → Type 0
+abbrev pub TellsVerdict : {K : Type 0} → SinkGhosts K → List ℕ → List ℕ → Option Verdict → K → K → Creation → Type 0
 TellsVerdict k verb name None before after how = (after ≡ before) × (IsWritten how → ⊥) × (how ≡ installs.WriteFault → ⊥)
 TellsVerdict k verb name (Some v) before after how =
     (IsWritten how → (how ≡ ends_so v) × Adds (k.written before) (k.written after) (verdict_line verb name v))
@@ -192,7 +181,7 @@ pub record MadeOn {D T : Type 0} (d : DiskGhosts D) (comes : Verdict → Type 0)
 
 -- A controller is made on an empty disk, of a state that comes so, and its line is written.
 pub record Makes {D K : Type 0} (d : DiskGhosts D) (k : SinkGhosts K) (comes : Verdict → Type 0) (verb name : List ℕ)
-    (old new : D) (before after : K) (how : Installed) : Type 0 where
+    (old new : D) (before after : K) (how : Creation) : Type 0 where
   -- the state, or why there is none, if the command came so far; and then all its line is written, or a front of it
   pub verdict : Option Verdict
   pub is_so : IfSome verdict (IsVerdict d comes old)

@@ -4,7 +4,7 @@ ghost use Rattle.std.specs.Prelude.{◌≡◌, ◌<◌, ◌≤◌, IfErr, IfOk, 
 ghost use Rattle.adr_node.specs.Begins.{Begun, BegunOn, IsUnbegun, TellsDamage, TellsRefusal};
 ghost use Rattle.adr_node.specs.Seen.{of_disk, of_keeper};
 
-use crate::ended::Unbegun;
+use crate::ended::{Unbegun, by_fault};
 use crate::lines::damaged_line;
 use adr_call::Text;
 use adr_controller::{Controller, Keeper, StartRefusal};
@@ -13,17 +13,6 @@ use adr_io::{Fault, Sink};
 use adr_journal::Journal;
 use adr_records::Records;
 use std::alloc::Global;
-
-/// A disk that couldn't be attached.
-fn unattached(fault: Fault) -> Unbegun
-    ensures failed { fault ≡ Fault.Failed → result ≡ Unbegun.DiskFault }
-    ensures no_memory { fault ≡ Fault.NoMemory → result ≡ Unbegun.NoMemory }
-{
-    match fault {
-        Fault::Failed => Unbegun::DiskFault,
-        Fault::NoMemory => Unbegun::NoMemory,
-    }
-}
 
 /// Writes where the bytes of a disk are no log.
 fn tell_damage<S: Sink>(alloc: Global, place: u64, sink: &mut S) -> Unbegun
@@ -86,7 +75,7 @@ pub fn begin<D: Disk, S: Sink>(
 {
     match disk.attach(name.as_str()) {
         Ok(()) => {}
-        Err(fault) => return Err((unattached(fault), disk)),
+        Err(fault) => return Err((by_fault(fault, Unbegun::DiskFault, Unbegun::NoMemory), disk)),
     }
     let journal: Journal<D, Records> = Journal::new(alloc, disk);
     match start(alloc, journal, sink) {

@@ -1,13 +1,13 @@
 //! `create`: a new, empty controller on an empty disk.
 
 ghost use Rattle.std.specs.Prelude.{◌≡◌, ◌⊎◌, ◌<◌, ◌≤◌, codes, Ok, Err, IfOk, IfErr, IsErrOf};
-ghost use Rattle.adr_node.specs.Makes.{IsNew, MadeOn, Makes, as_installed};
+ghost use Rattle.adr_node.specs.Makes.{IsNew, MadeOn, Makes};
 ghost use Rattle.adr_node.specs.Seen.{Untouched};
 ghost use Rattle.adr_node.specs.declared.ended.Refusal.{Refusal};
 ghost use Rattle.adr_records.specs.Logged.{MayBegin};
 
 use crate::drawing::draw;
-use crate::ended::{Created, Installed, Refusal};
+use crate::ended::{Creation, Refusal};
 use crate::making::{Unmade, begin, find_empty, tell};
 use adr_call::Text;
 use adr_disk::Disk;
@@ -55,23 +55,6 @@ fn new_on<D: Disk, F: Fresh>(
     }
 }
 
-/// How a command ends that reads no image, and whose log has room.
-fn created(ended: Installed) -> Created
-    requires read { ended ≡ Installed.ReadFault → ⊥ }
-    requires refused { (refusal : Refusal) → ended ≡ Installed.Refused refusal → refusal ≡ Refusal.NotEmpty }
-    ensures { as_installed result ≡ ended }
-{
-    match ended {
-        Installed::Done => Created::Done,
-        Installed::Refused(_) => Created::Refused,
-        Installed::ReadFault => unreachable!(),
-        Installed::WriteFault => Created::WriteFault,
-        Installed::DiskFault => Created::DiskFault,
-        Installed::FreshFault => Created::FreshFault,
-        Installed::NoMemory => Created::NoMemory,
-    }
-}
-
 /// Makes a new, empty controller on the disk of this name, which has to be empty, and writes the line of that. Its two
 /// identifiers are drawn, the controller's before the database's. The disk is attached, and comes back.
 pub fn create<D: Disk, F: Fresh, K: Sink>(
@@ -80,19 +63,23 @@ pub fn create<D: Disk, F: Fresh, K: Sink>(
     disk: D,
     fresh: &mut F,
     sink: &mut K,
-) -> (Created, D)
+) -> (Creation, D)
     ensures makes { let comes = IsNew (F.identifiers fresh.old) (F.identifiers fresh.new) in
-        Makes D.Disk K.Sink comes (codes "create") name.now disk result.1 sink.old sink.new (as_installed result.0) }
+        Makes D.Disk K.Sink comes (codes "create") name.now disk result.1 sink.old sink.new result.0 }
     ensures write_later { K.faults sink.old ≤ K.faults sink.new }
 
+    // Nothing is read.
+    ensures unread { result.0 ≡ Creation.ReadFault → ⊥ }
+
     // Where no identifier is given, nothing has changed of the disk.
-    ensures fresh_fault { result.0 ≡ Created.FreshFault
+    ensures fresh_fault { result.0 ≡ Creation.FreshFault
         → (F.faults fresh.old < F.faults fresh.new) × Untouched D.Disk disk result.1 }
     ensures fresh_later { F.faults fresh.old ≤ F.faults fresh.new }
 
-    // Whether the disk is empty is seen before anything is drawn.
-    ensures undrawn { result.0 ≡ Created.Refused → fresh.new ≡ fresh.old }
+    // Only a disk that has bytes is refused, before anything is drawn.
+    ensures alone { (refusal : Refusal) → result.0 ≡ Creation.Refused refusal
+        → (refusal ≡ Refusal.NotEmpty) × (fresh.new ≡ fresh.old) }
 {
     let (made, disk) = new_on(alloc, name, disk, fresh);
-    (created(tell(alloc, "create", name, made, sink)), disk)
+    (tell(alloc, "create", name, made, sink), disk)
 }

@@ -5,21 +5,10 @@ ghost use Rattle.adr_outside.specs.Given.{Takes};
 ghost use Rattle.adr_node.specs.Makes.{Draws};
 ghost use Rattle.adr_wire.specs.Ranges.{IsId};
 
+use crate::ended::by_fault;
 use crate::making::Unmade;
 use adr_guid::Guid;
-use adr_io::Fault;
 use adr_outside::Fresh;
-
-/// A call for an identifier that failed.
-fn fresh_failed(fault: Fault) -> Unmade
-    ensures failed { fault ≡ Fault.Failed → result ≡ Unmade.FreshFault }
-    ensures no_memory { fault ≡ Fault.NoMemory → result ≡ Unmade.NoMemory }
-{
-    match fault {
-        Fault::Failed => Unmade::FreshFault,
-        Fault::NoMemory => Unmade::NoMemory,
-    }
-}
 
 /// One fresh identifier.
 fn draw_one<F: Fresh>(fresh: &mut F) -> Result<Guid, Unmade>
@@ -30,7 +19,7 @@ fn draw_one<F: Fresh>(fresh: &mut F) -> Result<Guid, Unmade>
 {
     match fresh.identifier() {
         Ok(id) => Ok(id),
-        Err(fault) => Err(fresh_failed(fault)),
+        Err(fault) => Err(by_fault(fault, Unmade::FreshFault, Unmade::NoMemory)),
     }
 }
 

@@ -1,4 +1,4 @@
-//! What `install` and `restore` have in common: a controller of the image that a source gives.
+//! A controller of the image that a source gives.
 
 ghost use Rattle.std.specs.Prelude.{◌≡◌, ◌⊎◌, ◌<◌, ◌≤◌, take, Ok, Err, IfOk, IfErr, IfSome, IsErrOf};
 ghost use Rattle.adr_model.specs.Collect.{adopt};
@@ -12,13 +12,13 @@ ghost use Rattle.adr_wire.specs.declared.refusal.DecodeRefusal.{DecodeRefusal};
 ghost use Rattle.adr_wire.specs.Ranges.{IsId};
 
 use crate::drawing::draw;
-use crate::ended::Refusal;
+use crate::ended::{Refusal, by_fault};
 use crate::making::{Unmade, begin, find_empty};
 use adr_call::{Failure, Text};
 use adr_disk::Disk;
 use adr_guid::Guid;
 use adr_image::{Dormant, decode};
-use adr_io::{Fault, Source, read_at_most};
+use adr_io::{Source, read_at_most};
 use adr_law_recorded::adopted_states_are_logged;
 use adr_outside::Fresh;
 use adr_records::adopt;
@@ -27,17 +27,6 @@ use std::alloc::Global;
 
 /// So many bytes of a source are read at most, one more than an image of a log may have: 4 GiB.
 const IMAGE_LIMIT: usize = 4_294_967_296;
-
-/// A read that failed.
-fn read_failed(fault: Fault) -> Unmade
-    ensures failed { fault ≡ Fault.Failed → result ≡ Unmade.ReadFault }
-    ensures no_memory { fault ≡ Fault.NoMemory → result ≡ Unmade.NoMemory }
-{
-    match fault {
-        Fault::Failed => Unmade::ReadFault,
-        Fault::NoMemory => Unmade::NoMemory,
-    }
-}
 
 /// The bytes of an image.
 fn read_bytes<S: Source>(alloc: Global, source: &mut S) -> Result<Vec<u8>, Unmade>
@@ -48,7 +37,7 @@ fn read_bytes<S: Source>(alloc: Global, source: &mut S) -> Result<Vec<u8>, Unmad
 {
     match read_at_most(alloc, source, IMAGE_LIMIT) {
         Ok(bytes) => Ok(bytes),
-        Err(fault) => Err(read_failed(fault)),
+        Err(fault) => Err(by_fault(fault, Unmade::ReadFault, Unmade::NoMemory)),
     }
 }
 

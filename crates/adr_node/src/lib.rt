@@ -6,26 +6,21 @@
 //! command line, of statuses, or of a network.
 #![tactic(auto)]
 
-mod backing_up;
+mod adopting;
 mod beginning;
 mod creating;
 mod drawing;
 mod ended;
-mod exporting;
 mod imaging;
-mod installing;
 mod lines;
 mod making;
-mod restoring;
-mod showing;
+mod sights;
 mod verdicts;
 mod waking;
 
-pub use backing_up::backup;
+pub use adopting::adopt;
 pub use beginning::begin;
 pub use creating::create;
-pub use ended::{BackedUp, Created, Installed, Looked, Refusal, Unbegun};
-pub use exporting::export;
-pub use installing::install;
-pub use restoring::restore;
-pub use showing::show;
+pub use ended::{Creation, Looked, Refusal, Unbegun};
+pub use sights::Sight;
+pub use waking::look;

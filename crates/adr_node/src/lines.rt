@@ -1,24 +1,31 @@
 //! The lines of a node's commands that no answer of a schedule has.
 
-ghost use Rattle.std.specs.Prelude.{◌≡◌, IfOk};
+ghost use Rattle.std.specs.Prelude.{◌≡◌, ◌++◌, IfOk, codes};
+ghost use Rattle.std.specs.Fmt.{decimal};
 ghost use Rattle.adr_node.specs.Lines.{damaged_line, refusal_line};
 
-use adr_answers::result_line;
+use adr_answers::{push_number_behind, result_line};
 use adr_call::Outcome;
 use adr_failure::NoMemory;
-use adr_token::{push, push_number};
+use adr_token::push;
 use std::alloc::Global;
+
+/// The line of a number behind some text.
+pub(crate) fn number_line(alloc: Global, text: &[u8], number: u64) -> Result<Vec<u8>, NoMemory>
+    ensures { IfOk result (λ bytes. bytes.items ≡ text.now ++ decimal number ++ codes "\n") }
+{
+    let mut out = Vec::new(alloc);
+    push_number_behind(&mut out, text, number)?;
+    push(&mut out, b"\n")?;
+    Ok(out)
+}
 
 /// The line of damage at a place, in bytes.
 #[tactic(auto, unfolding(crate::specs::Lines::damaged_line))]
 pub(crate) fn damaged_line(alloc: Global, place: u64) -> Result<Vec<u8>, NoMemory>
     ensures { IfOk result (λ bytes. bytes.items ≡ damaged_line place) }
 {
-    let mut out = Vec::new(alloc);
-    push(&mut out, b"damaged ")?;
-    push_number(&mut out, place)?;
-    push(&mut out, b"\n")?;
-    Ok(out)
+    number_line(alloc, b"damaged ", place)
 }
 
 /// The line of a refusal that has a number.

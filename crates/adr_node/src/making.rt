@@ -9,7 +9,7 @@ ghost use Rattle.adr_node.specs.Formats.{EndsFormat, Formats};
 ghost use Rattle.adr_node.specs.Makes.{Begins, HasNone, SeesNone, TellsVerdict, verdict_of};
 ghost use Rattle.adr_node.specs.Seen.{of_disk, of_keeper};
 
-use crate::ended::{Installed, Refusal};
+use crate::ended::{Creation, Refusal, by_fault};
 use crate::verdicts::verdict_line;
 use crate::waking::write;
 use adr_call::Text;
@@ -31,24 +31,13 @@ pub(crate) enum Unmade {
     NoMemory,
 }
 
-/// A call of the disk that failed.
-fn disk_failed(fault: Fault) -> Unmade
-    ensures failed { fault ≡ Fault.Failed → result ≡ Unmade.DiskFault }
-    ensures no_memory { fault ≡ Fault.NoMemory → result ≡ Unmade.NoMemory }
-{
-    match fault {
-        Fault::Failed => Unmade::DiskFault,
-        Fault::NoMemory => Unmade::NoMemory,
-    }
-}
-
 /// Attaches the disk by its name, and sees that it has no bytes.
 pub(crate) fn find_empty<D: Disk>(name: &Text, disk: &mut D) -> Result<(), Unmade>
     ensures { SeesNone D.Disk disk.old disk.new result }
 {
     match disk.attach(name.as_str()) {
         Ok(()) => has_none(disk),
-        Err(fault) => Err(disk_failed(fault)),
+        Err(fault) => Err(by_fault(fault, Unmade::DiskFault, Unmade::NoMemory)),
     }
 }
 
@@ -59,7 +48,7 @@ fn has_none<D: Disk>(disk: &mut D) -> Result<(), Unmade>
     match disk.len() {
         Ok(0) => Ok(()),
         Ok(_) => Err(Unmade::Refused(Refusal::NotEmpty)),
-        Err(fault) => Err(disk_failed(fault)),
+        Err(fault) => Err(by_fault(fault, Unmade::DiskFault, Unmade::NoMemory)),
     }
 }
 
@@ -116,23 +105,26 @@ pub(crate) fn begin<D: Disk>(alloc: Global, mut disk: D, state: State) -> (Resul
         Ok(()) => format_disk(alloc, disk, state),
         Err(fault) => {
             drop(state);
-            (Err(disk_failed(fault)), disk)
+            (
+                Err(by_fault(fault, Unmade::DiskFault, Unmade::NoMemory)),
+                disk,
+            )
         }
     }
 }
 
 /// How a command ends whose line was written.
-fn ended(why: Option<Refusal>, written: Result<(), Fault>) -> Installed
-    ensures done { why ≡ None → OnOk written (result ≡ Installed.Done) }
-    ensures refused { IfSome why (λ refusal. OnOk written (result ≡ Installed.Refused refusal)) }
-    ensures failed { IsErrOf written Fault.Failed → result ≡ Installed.WriteFault }
-    ensures no_memory { IsErrOf written Fault.NoMemory → result ≡ Installed.NoMemory }
+fn ended(why: Option<Refusal>, written: Result<(), Fault>) -> Creation
+    ensures done { why ≡ None → OnOk written (result ≡ Creation.Done) }
+    ensures refused { IfSome why (λ refusal. OnOk written (result ≡ Creation.Refused refusal)) }
+    ensures failed { IsErrOf written Fault.Failed → result ≡ Creation.WriteFault }
+    ensures no_memory { IsErrOf written Fault.NoMemory → result ≡ Creation.NoMemory }
 {
     match (written, why) {
-        (Ok(()), None) => Installed::Done,
-        (Ok(()), Some(refusal)) => Installed::Refused(refusal),
-        (Err(Fault::Failed), _) => Installed::WriteFault,
-        (Err(Fault::NoMemory), _) => Installed::NoMemory,
+        (Ok(()), None) => Creation::Done,
+        (Ok(()), Some(refusal)) => Creation::Refused(refusal),
+        (Err(Fault::Failed), _) => Creation::WriteFault,
+        (Err(Fault::NoMemory), _) => Creation::NoMemory,
     }
 }
 
@@ -143,7 +135,7 @@ fn tell_verdict<K: Sink>(
     name: &Text,
     why: Option<Refusal>,
     sink: &mut K,
-) -> Installed
+) -> Creation
     ensures done { why ≡ None → (s : Defined) → TellsVerdict K.Sink verb.now name.now (Some (Ok s)) sink.old sink.new result }
     ensures refused { IfSome why (λ refusal.
         TellsVerdict K.Sink verb.now name.now (Some (Err refusal)) sink.old sink.new result) }
@@ -160,20 +152,20 @@ pub(crate) fn tell<K: Sink>(
     name: &Text,
     made: Result<(), Unmade>,
     sink: &mut K,
-) -> Installed
+) -> Creation
     ensures tells { (s : Defined) → TellsVerdict K.Sink verb.now name.now (verdict_of s made) sink.old sink.new result }
-    ensures disk_fault { result ≡ Installed.DiskFault → made ≡ Err Unmade.DiskFault }
-    ensures faulty { made ≡ Err Unmade.DiskFault → result ≡ Installed.DiskFault }
-    ensures read_fault { result ≡ Installed.ReadFault → made ≡ Err Unmade.ReadFault }
-    ensures fresh_fault { result ≡ Installed.FreshFault → made ≡ Err Unmade.FreshFault }
+    ensures disk_fault { result ≡ Creation.DiskFault → made ≡ Err Unmade.DiskFault }
+    ensures faulty { made ≡ Err Unmade.DiskFault → result ≡ Creation.DiskFault }
+    ensures read_fault { result ≡ Creation.ReadFault → made ≡ Err Unmade.ReadFault }
+    ensures fresh_fault { result ≡ Creation.FreshFault → made ≡ Err Unmade.FreshFault }
     ensures later { K.faults sink.old ≤ K.faults sink.new }
 {
     match made {
         Ok(()) => tell_verdict(alloc, verb, name, None, sink),
         Err(Unmade::Refused(refusal)) => tell_verdict(alloc, verb, name, Some(refusal), sink),
-        Err(Unmade::ReadFault) => Installed::ReadFault,
-        Err(Unmade::DiskFault) => Installed::DiskFault,
-        Err(Unmade::FreshFault) => Installed::FreshFault,
-        Err(Unmade::NoMemory) => Installed::NoMemory,
+        Err(Unmade::ReadFault) => Creation::ReadFault,
+        Err(Unmade::DiskFault) => Creation::DiskFault,
+        Err(Unmade::FreshFault) => Creation::FreshFault,
+        Err(Unmade::NoMemory) => Creation::NoMemory,
     }
 }

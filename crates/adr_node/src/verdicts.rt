@@ -1,43 +1,19 @@
 //! The line of a command that made a controller, or says why it didn't.
 
 ghost use Rattle.std.specs.Prelude.{◌≡◌, IfOk, IfSome, None};
-ghost use Rattle.adr_node.specs.Lines.{malformed_line, not_empty_line, version_line};
+ghost use Rattle.adr_node.specs.Lines.{not_empty_line};
 ghost use Rattle.adr_node.specs.Makes.{image_line, made_line, refused_line};
 
 use crate::ended::Refusal;
-use crate::lines::refusal_line;
+use crate::lines::{number_line, refusal_line};
 use adr_answers::{Heading, line};
 use adr_call::{Outcome, Table, Text};
 use adr_failure::NoMemory;
 use adr_image::DecodeRefusal;
 use adr_outcome::{adopt_refused, full};
 use adr_state::LOG_LIMIT;
-use adr_token::{push, push_number};
+use adr_token::push;
 use std::alloc::Global;
-
-/// The line of an image that is malformed at a place, in bytes.
-#[tactic(auto, unfolding(crate::specs::Lines::malformed_line))]
-fn malformed_line(alloc: Global, place: u64) -> Result<Vec<u8>, NoMemory>
-    ensures { IfOk result (λ bytes. bytes.items ≡ malformed_line place) }
-{
-    let mut out = Vec::new(alloc);
-    push(&mut out, b"refused Malformed place=")?;
-    push_number(&mut out, place)?;
-    push(&mut out, b"\n")?;
-    Ok(out)
-}
-
-/// The line of an image of a version of which no form is known.
-#[tactic(auto, unfolding(crate::specs::Lines::version_line))]
-fn version_line(alloc: Global, found: u16) -> Result<Vec<u8>, NoMemory>
-    ensures { IfOk result (λ bytes. bytes.items ≡ version_line found) }
-{
-    let mut out = Vec::new(alloc);
-    push(&mut out, b"refused WrongVersion found=")?;
-    push_number(&mut out, u64::from(found))?;
-    push(&mut out, b"\n")?;
-    Ok(out)
-}
 
 /// The line of a disk that has bytes.
 #[tactic(auto, unfolding(crate::specs::Lines::not_empty_line))]
@@ -49,12 +25,19 @@ fn not_empty_line(alloc: Global) -> Result<Vec<u8>, NoMemory>
     Ok(out)
 }
 
+#[tactic(auto, unfolding(crate::specs::Lines::malformed_line, crate::specs::Lines::version_line))]
 fn image_line(alloc: Global, refusal: DecodeRefusal) -> Result<Vec<u8>, NoMemory>
     ensures { IfOk result (λ bytes. bytes.items ≡ image_line refusal) }
 {
     match refusal {
-        DecodeRefusal::Malformed { place } => malformed_line(alloc, place),
-        DecodeRefusal::WrongVersion { found } => version_line(alloc, found),
+        DecodeRefusal::Malformed { place } => number_line(
+            alloc,
+            b"refused Malformed place=",
+            place,
+        ),
+        DecodeRefusal::WrongVersion { found } => {
+            number_line(alloc, b"refused WrongVersion found=", u64::from(found))
+        }
     }
 }
 

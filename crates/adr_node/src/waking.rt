@@ -7,14 +7,12 @@ ghost use Rattle.adr_law_journal.specs.Areas.{found};
 ghost use Rattle.adr_model.specs.Lengths.{Log};
 ghost use Rattle.adr_records.specs.Logged.{IsLogged};
 ghost use Rattle.adr_controller.specs.Running.{IsInOrder};
-ghost use Rattle.adr_node.specs.Looks.{Looks, LooksOn, Tells, bytes_of, due_of, in_full, refuses, unseen, whole_of};
+ghost use Rattle.adr_node.specs.Looks.{Looks, LooksOn, Tells, bytes_of, due_of, refuses, unseen, whole_of};
 ghost use Rattle.adr_node.specs.Seen.{of_disk};
 
-use crate::backing_up::backup_bytes;
 use crate::beginning::begin;
-use crate::ended::{BackedUp, Looked, Unbegun};
-use crate::exporting::export_bytes;
-use crate::showing::show_bytes;
+use crate::ended::{Looked, Unbegun};
+use crate::sights::{Sight, bytes_of, whole_of};
 use adr_call::Text;
 use adr_controller::{Controller, Keeper};
 use adr_disk::Disk;
@@ -23,59 +21,16 @@ use adr_io::{Fault, Sink};
 use adr_state::State;
 use std::alloc::Global;
 
-/// What is written of a controller.
-#[derive(Clone, Copy)]
-pub(crate) enum Sight {
-    /// Its directory, as an answer.
-    Directory,
-    /// Its directory, as JSON.
-    Json,
-    /// Its image.
-    Image,
-}
-
-fn bytes_of(alloc: Global, sight: Sight, name: &Text, state: &State) -> Result<Vec<u8>, NoMemory>
-    requires { IsLogged state.now }
-    ensures { IfOk result (λ bytes. bytes.items ≡ bytes_of sight name.now state.now) }
-{
-    match sight {
-        Sight::Directory => show_bytes(alloc, name, state),
-        Sight::Json => export_bytes(alloc, state),
-        Sight::Image => backup_bytes(alloc, state),
-    }
-}
-
-/// Whether that is refused.
-fn refuses(sight: Sight, state: &State) -> bool
-    ensures { result ≡ refuses sight state.now }
-{
-    match sight {
-        Sight::Directory | Sight::Json => false,
-        Sight::Image => state.mode().is_quarantined(),
-    }
-}
-
-/// How a command ends that has written all that is due of a state.
-fn whole_of(sight: Sight, state: &State) -> BackedUp
-    ensures { result ≡ whole_of (refuses sight state.now) }
-{
-    if refuses(sight, state) {
-        BackedUp::Refused
-    } else {
-        BackedUp::Done
-    }
-}
-
 /// How a command ends behind what was written.
-fn ended(whole: BackedUp, written: Result<(), Fault>) -> BackedUp
+fn ended(whole: Looked, written: Result<(), Fault>) -> Looked
     ensures ok { OnOk written (result ≡ whole) }
-    ensures failed { IsErrOf written Fault.Failed → result ≡ BackedUp.WriteFault }
-    ensures no_memory { IsErrOf written Fault.NoMemory → result ≡ BackedUp.NoMemory }
+    ensures failed { IsErrOf written Fault.Failed → result ≡ Looked.WriteFault }
+    ensures no_memory { IsErrOf written Fault.NoMemory → result ≡ Looked.NoMemory }
 {
     match written {
         Ok(()) => whole,
-        Err(Fault::Failed) => BackedUp::WriteFault,
-        Err(Fault::NoMemory) => BackedUp::NoMemory,
+        Err(Fault::Failed) => Looked::WriteFault,
+        Err(Fault::NoMemory) => Looked::NoMemory,
     }
 }
 
@@ -93,11 +48,11 @@ pub(crate) fn write<K: Sink>(made: Result<Vec<u8>, NoMemory>, sink: &mut K) -> R
 }
 
 /// Writes what is due of a state.
-fn tell<K: Sink>(alloc: Global, sight: Sight, name: &Text, state: &State, sink: &mut K) -> BackedUp
+fn tell<K: Sink>(alloc: Global, sight: Sight, name: &Text, state: &State, sink: &mut K) -> Looked
     requires { IsLogged state.now }
     ensures tells { (log : Log)
         → Tells K.Sink (due_of (refuses sight) (bytes_of sight name.now) (Ok (found state.now log))) sink.old sink.new result }
-    ensures no_fault { result ≡ BackedUp.DiskFault → ⊥ }
+    ensures no_fault { result ≡ Looked.DiskFault → ⊥ }
 {
     let whole = whole_of(sight, state);
     let written = write(bytes_of(alloc, sight, name, state), sink);
@@ -105,14 +60,14 @@ fn tell<K: Sink>(alloc: Global, sight: Sight, name: &Text, state: &State, sink: 
 }
 
 /// How a command ends that had no controller to look at.
-fn unseen(why: Unbegun) -> BackedUp
+fn unseen(why: Unbegun) -> Looked
     ensures { result ≡ unseen why }
 {
     match why {
-        Unbegun::Damaged { place } => BackedUp::Damaged { place },
-        Unbegun::WriteFault => BackedUp::WriteFault,
-        Unbegun::DiskFault => BackedUp::DiskFault,
-        Unbegun::NoMemory => BackedUp::NoMemory,
+        Unbegun::Damaged { place } => Looked::Damaged { place },
+        Unbegun::WriteFault => Looked::WriteFault,
+        Unbegun::DiskFault => Looked::DiskFault,
+        Unbegun::NoMemory => Looked::NoMemory,
     }
 }
 
@@ -123,14 +78,14 @@ fn tell_of<K: Keeper, S: Sink>(
     name: &Text,
     controller: &Controller<K>,
     sink: &mut S,
-) -> BackedUp
+) -> Looked
     requires up { IsSome controller.now.state }
     requires formed { (s : Defined) → K.is_formed s → IsLogged s }
     ensures in_order { IsInOrder K.Keeper controller.now }
     ensures tells { (s : Defined) (log : Log) → controller.now.state ≡ Some s
         → Tells S.Sink (due_of (refuses sight) (bytes_of sight name.now) (Ok (found s log))) sink.old sink.new result
         × IsLogged s }
-    ensures no_fault { result ≡ BackedUp.DiskFault → ⊥ }
+    ensures no_fault { result ≡ Looked.DiskFault → ⊥ }
 {
     match controller.state() {
         Some(state) => tell(alloc, sight, name, state, sink),
@@ -145,7 +100,7 @@ fn look_at<K: Keeper, S: Sink>(
     name: &Text,
     controller: Controller<K>,
     sink: &mut S,
-) -> (BackedUp, K)
+) -> (Looked, K)
     requires up { IsSome controller.state }
     requires formed { (s : Defined) → K.is_formed s → IsLogged s }
     ensures { let due = due_of (refuses sight) (bytes_of sight name.now) in
@@ -155,14 +110,15 @@ fn look_at<K: Keeper, S: Sink>(
     (ended, controller.into_keeper())
 }
 
-/// Begins with the controller on the disk of a name, and writes what is due of it. The disk comes back.
-pub(crate) fn look<D: Disk, K: Sink>(
+/// Begins with the controller on the disk of this name, and writes what is asked for of it. The disk is attached, and comes
+/// back.
+pub fn look<D: Disk, K: Sink>(
     alloc: Global,
     sight: Sight,
     name: &Text,
     disk: D,
     sink: &mut K,
-) -> (BackedUp, D)
+) -> (Looked, D)
     ensures { let due = due_of (refuses sight) (bytes_of sight name.now) in
         Looks (of_disk D.Disk) K.Sink due disk result.1 sink.old sink.new result.0 }
 {
@@ -172,20 +128,5 @@ pub(crate) fn look<D: Disk, K: Sink>(
             (ended, journal.into_disk())
         }
         Err((why, disk)) => (unseen(why), disk),
-    }
-}
-
-/// How a command ends that isn't refused.
-pub(crate) fn never_refused(ended: BackedUp) -> Looked
-    requires { ended ≡ BackedUp.Refused → ⊥ }
-    ensures { in_full result ≡ ended }
-{
-    match ended {
-        BackedUp::Done => Looked::Done,
-        BackedUp::Refused => unreachable!(),
-        BackedUp::Damaged { place } => Looked::Damaged { place },
-        BackedUp::WriteFault => Looked::WriteFault,
-        BackedUp::DiskFault => Looked::DiskFault,
-        BackedUp::NoMemory => Looked::NoMemory,
     }
 }

@@ -38,23 +38,17 @@ leaves_as_before d n c s count (Err place) old new leaves = leaves
 -- ---- no controller was begun with
 
 write_unserved : (why : Unbegun) → unserved why ≡ online.WriteFault → why ≡ unbegun.WriteFault
-write_unserved (unbegun.Damaged place) is = absurd (cc is)
 write_unserved unbegun.WriteFault is = refl
-write_unserved unbegun.DiskFault is = absurd (cc is)
-write_unserved unbegun.NoMemory is = absurd (cc is)
+write_unserved why is = absurd (cc is)
 
 disk_unserved : (why : Unbegun) → unserved why ≡ online.DiskFault → why ≡ unbegun.DiskFault
-disk_unserved (unbegun.Damaged place) is = absurd (cc is)
-disk_unserved unbegun.WriteFault is = absurd (cc is)
 disk_unserved unbegun.DiskFault is = refl
-disk_unserved unbegun.NoMemory is = absurd (cc is)
+disk_unserved why is = absurd (cc is)
 
 -- it ends in no other way
 only_unserved : (why : Unbegun) → (unserved why ≡ online.LinkFault) ⊎ (unserved why ≡ online.ClockFault) → ⊥
-only_unserved (unbegun.Damaged place) is = ⊎_elim (λ (e : unserved (unbegun.Damaged place) ≡ online.LinkFault). cc) (λ (e : unserved (unbegun.Damaged place) ≡ online.ClockFault). cc) is
-only_unserved unbegun.WriteFault is = ⊎_elim (λ (e : unserved unbegun.WriteFault ≡ online.LinkFault). cc) (λ (e : unserved unbegun.WriteFault ≡ online.ClockFault). cc) is
-only_unserved unbegun.DiskFault is = ⊎_elim (λ (e : unserved unbegun.DiskFault ≡ online.LinkFault). cc) (λ (e : unserved unbegun.DiskFault ≡ online.ClockFault). cc) is
-only_unserved unbegun.NoMemory is = ⊎_elim (λ (e : unserved unbegun.NoMemory ≡ online.LinkFault). cc) (λ (e : unserved unbegun.NoMemory ≡ online.ClockFault). cc) is
+only_unserved unbegun.WriteFault is = ⊎_elim (λ (e : online.WriteFault ≡ online.LinkFault). cc) (λ (e : online.WriteFault ≡ online.ClockFault). cc) is
+only_unserved why is = ⊎_elim (λ (e : unserved why ≡ online.LinkFault). cc) (λ (e : unserved why ≡ online.ClockFault). cc) is
 
 pub none_served : {D N C S : Type 0} (d : Seen D) (n : NetGhosts N) (c : ClockGhosts C) (s : SinkGhosts S) (count : ℕ) (old new : Hands D N C S) (why : Unbegun)
     → IsUnbegun d s old.disk new.disk old.sink new.sink why → new.net ≡ old.net → new.clock ≡ old.clock → Serves d n c s count old new (unserved why)

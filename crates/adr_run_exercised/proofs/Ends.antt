@@ -52,14 +52,18 @@ is_round = record { each = each; only = only }
     only x (inr (inr (inr (inl e)))) = inl (ap connection e)
     only x (inr (inr (inr (inr m)))) = absurd m
 
+-- each of the six is the round of the four
+pub each_of_six : (P : List Exchange → Type 0) → P four_pull → Each P six_rounds
+each_of_six P four r (inl e) = subst P (sym e) four
+each_of_six P four r (inr (inl e)) = subst P (sym e) four
+each_of_six P four r (inr (inr (inl e))) = subst P (sym e) four
+each_of_six P four r (inr (inr (inr (inl e)))) = subst P (sym e) four
+each_of_six P four r (inr (inr (inr (inr (inl e))))) = subst P (sym e) four
+each_of_six P four r (inr (inr (inr (inr (inr (inl e)))))) = subst P (sym e) four
+each_of_six P four r (inr (inr (inr (inr (inr (inr m)))))) = absurd m
+
 pub six_are_rounds : Each (IsRound over) six_rounds
-six_are_rounds r (inl e) = subst (IsRound over) (sym e) is_round
-six_are_rounds r (inr (inl e)) = subst (IsRound over) (sym e) is_round
-six_are_rounds r (inr (inr (inl e))) = subst (IsRound over) (sym e) is_round
-six_are_rounds r (inr (inr (inr (inl e)))) = subst (IsRound over) (sym e) is_round
-six_are_rounds r (inr (inr (inr (inr (inl e))))) = subst (IsRound over) (sym e) is_round
-six_are_rounds r (inr (inr (inr (inr (inr (inl e)))))) = subst (IsRound over) (sym e) is_round
-six_are_rounds r (inr (inr (inr (inr (inr (inr m)))))) = absurd m
+six_are_rounds = each_of_six (IsRound over) is_round
 
 pub connected : AreConnected over four_names
 connected = rings_are_connected (codes "A") others

@@ -17,7 +17,7 @@ use Rattle.adr_run_exercise.specs.Summary.{four_names}
 use Rattle.adr_run_exercised.specs.Exercised.{four_pull, six_rounds}
 use Rattle.adr_run_exercised.proofs.Answered.{IsTold, pulls_told}
 use Rattle.adr_run_exercised.proofs.Between.{AreBetween, between_on}
-use Rattle.adr_run_exercised.proofs.Ends.{over, is_round, connected}
+use Rattle.adr_run_exercised.proofs.Ends.{over, each_of_six, is_round, connected}
 use Rattle.adr_run_exercised.proofs.Few.{AreOfFew}
 use Rattle.adr_run_exercised.proofs.Limits.{HasFirstSchema, cycle_unrefused}
 use Rattle.adr_run_exercised.proofs.Manned.{AreManned, cycling_manned}
@@ -49,16 +49,7 @@ all_turns [] all x m = absurd m
 all_turns (r ∷ rs) all x m = ⊎_elim (λ k. all r (inl refl) x k) (λ k. all_turns rs (λ y n. all y (inr n)) x k) (member_of_either r (in_turn rs) x m)
 
 pub six_are : Each IsOfFour (in_turn six_rounds)
-six_are = all_turns six_rounds all
-  where
-    all : Each (λ r. Each IsOfFour r) six_rounds
-    all r (inl e) = subst (Each IsOfFour) (sym e) four_are
-    all r (inr (inl e)) = subst (Each IsOfFour) (sym e) four_are
-    all r (inr (inr (inl e))) = subst (Each IsOfFour) (sym e) four_are
-    all r (inr (inr (inr (inl e)))) = subst (Each IsOfFour) (sym e) four_are
-    all r (inr (inr (inr (inr (inl e))))) = subst (Each IsOfFour) (sym e) four_are
-    all r (inr (inr (inr (inr (inr (inl e)))))) = subst (Each IsOfFour) (sym e) four_are
-    all r (inr (inr (inr (inr (inr (inr m)))))) = absurd m
+six_are = all_turns six_rounds (each_of_six (Each IsOfFour) four_are)
 
 -- what was no refusal, and not that there is more, was well
 fine_where : (x : Exchange) (w : World) → IsOfFour x → AreManned four_names w.replicas → NoneIsRefused (step w (line_of x)).1 → Each (λ a. a.outcome ≢ outcomes.More) (step w (line_of x)).1 → IsWhole (step w (line_of x)).1

@@ -6,6 +6,7 @@ ghost use Rattle.adr_schedule.specs.Crashes.{crash_word};
 ghost use Rattle.adr_schedule.specs.Grammar.{Attribute as attributed, Class as classed, Identifier as identified, Name as named, Number as numbered, Quoted as quoted, Word as said, given_by, given_in, named as names_of, sets, tokens_asked, tokens_behind, tokens_written};
 ghost use Rattle.adr_run_print.specs.Printed.{line_of, printed, set_tokens, spaced, token_of, token_text};
 
+use Token::{Attribute, Class, Identifier, Name, Number, Quoted, Word};
 use adr_call::{Report, Write};
 use adr_disk::Crash;
 use adr_event::Event;
@@ -33,13 +34,13 @@ fn push_token(out: &mut Vec<u8>, token: &Token<'_>) -> Result<(), NoMemory>
     ensures { OnOk result (out.new.items ≡ out.old.items ++ token_text (token_of token.now)) }
 {
     match token {
-        Token::Word(word) => push(out, word),
-        Token::Name(name) => push(out, name.items()),
-        Token::Number(number) => push_number(out, *number),
-        Token::Identifier(id) => push_identifier(out, *id),
-        Token::Class(class) => push_class(out, *class),
-        Token::Attribute(attr) => push_attribute(out, *attr),
-        Token::Quoted(text) => push_text(out, text.items()),
+        Word(word) => push(out, word),
+        Name(name) => push(out, name.items()),
+        Number(number) => push_number(out, *number),
+        Identifier(id) => push_identifier(out, *id),
+        Class(class) => push_class(out, *class),
+        Attribute(attr) => push_attribute(out, *attr),
+        Quoted(text) => push_text(out, text.items()),
     }
 }
 
@@ -112,9 +113,9 @@ fn push_ring(
     push_with_names(
         out,
         &[
-            Token::Number(u64::from(rounds)),
-            Token::Number(u64::from(max)),
-            Token::Name(name),
+            Number(u64::from(rounds)),
+            Number(u64::from(max)),
+            Name(name),
         ],
         others,
     )
@@ -139,14 +140,7 @@ fn push_controller(out: &mut Vec<u8>, name: &Text, dsa: Guid, inv: Guid) -> Resu
     ensures { OnOk result (out.new.items
         ≡ out.old.items ++ spaced (map token_text (named name.now ∷ identified dsa ∷ identified inv ∷ []))) }
 {
-    push_tokens(
-        out,
-        &[
-            Token::Name(name),
-            Token::Identifier(dsa),
-            Token::Identifier(inv),
-        ],
-    )
+    push_tokens(out, &[Name(name), Identifier(dsa), Identifier(inv)])
 }
 
 /// NAME ID CLASS ID TEXT SET.., of `add`.
@@ -165,11 +159,11 @@ fn push_added<'a>(
     push_with_sets(
         out,
         &[
-            Token::Name(name),
-            Token::Identifier(guid),
-            Token::Class(class),
-            Token::Identifier(parent),
-            Token::Quoted(text),
+            Name(name),
+            Identifier(guid),
+            Class(class),
+            Identifier(parent),
+            Quoted(text),
         ],
         values,
     )
@@ -185,7 +179,7 @@ fn push_modified(
     ensures { OnOk result (out.new.items
         ≡ out.old.items ++ spaced (map token_text (named name.now ∷ identified guid ∷ sets values.now))) }
 {
-    push_with_sets(out, &[Token::Name(name), Token::Identifier(guid)], values)
+    push_with_sets(out, &[Name(name), Identifier(guid)], values)
 }
 
 /// NAME ID ID TEXT, of `rename`.
@@ -202,10 +196,10 @@ fn push_renamed<'a>(
     push_tokens(
         out,
         &[
-            Token::Name(name),
-            Token::Identifier(guid),
-            Token::Identifier(parent),
-            Token::Quoted(text),
+            Name(name),
+            Identifier(guid),
+            Identifier(parent),
+            Quoted(text),
         ],
     )
 }
@@ -215,7 +209,7 @@ fn push_identified(out: &mut Vec<u8>, name: &Text, guid: Guid) -> Result<(), NoM
     ensures { OnOk result (out.new.items
         ≡ out.old.items ++ spaced (map token_text (named name.now ∷ identified guid ∷ []))) }
 {
-    push_tokens(out, &[Token::Name(name), Token::Identifier(guid)])
+    push_tokens(out, &[Name(name), Identifier(guid)])
 }
 
 /// NAME ID ATTR ID, of `link` and `unlink`.
@@ -232,10 +226,10 @@ fn push_linked(
     push_tokens(
         out,
         &[
-            Token::Name(name),
-            Token::Identifier(from),
-            Token::Attribute(attr),
-            Token::Identifier(to),
+            Name(name),
+            Identifier(from),
+            Attribute(attr),
+            Identifier(to),
         ],
     )
 }
@@ -254,11 +248,11 @@ fn push_asked<'a>(
     push_tokens(
         out,
         &[
-            Token::Name(name),
-            Token::Name(partner),
-            Token::Number(u64::from(max)),
-            Token::Word(b"as"),
-            Token::Name(bound),
+            Name(name),
+            Name(partner),
+            Number(u64::from(max)),
+            Word(b"as"),
+            Name(bound),
         ],
     )
 }
@@ -273,15 +267,7 @@ fn push_served<'a>(
     ensures { OnOk result (out.new.items
         ≡ out.old.items ++ spaced (map token_text (named name.now ∷ named request.now ∷ said (codes "as") ∷ named bound.now ∷ []))) }
 {
-    push_tokens(
-        out,
-        &[
-            Token::Name(name),
-            Token::Name(request),
-            Token::Word(b"as"),
-            Token::Name(bound),
-        ],
-    )
+    push_tokens(out, &[Name(name), Name(request), Word(b"as"), Name(bound)])
 }
 
 /// NAME NAME, of `deliver` and `rollback`.
@@ -289,7 +275,7 @@ fn push_used<'a>(out: &mut Vec<u8>, name: &'a Text, other: &'a Text) -> Result<(
     ensures { OnOk result (out.new.items
         ≡ out.old.items ++ spaced (map token_text (named name.now ∷ named other.now ∷ []))) }
 {
-    push_tokens(out, &[Token::Name(name), Token::Name(other)])
+    push_tokens(out, &[Name(name), Name(other)])
 }
 
 /// NAME NAME MAX, of `pull` and `cycle`.
@@ -302,14 +288,7 @@ fn push_pulled<'a>(
     ensures { OnOk result (out.new.items
         ≡ out.old.items ++ spaced (map token_text (named name.now ∷ named source.now ∷ numbered max ∷ []))) }
 {
-    push_tokens(
-        out,
-        &[
-            Token::Name(name),
-            Token::Name(source),
-            Token::Number(u64::from(max)),
-        ],
-    )
+    push_tokens(out, &[Name(name), Name(source), Number(u64::from(max))])
 }
 
 /// NAME LIFETIME, of `collect`.
@@ -317,7 +296,7 @@ fn push_collected(out: &mut Vec<u8>, name: &Text, lifetime: u64) -> Result<(), N
     ensures { OnOk result (out.new.items
         ≡ out.old.items ++ spaced (map token_text (named name.now ∷ numbered lifetime ∷ []))) }
 {
-    push_tokens(out, &[Token::Name(name), Token::Number(lifetime)])
+    push_tokens(out, &[Name(name), Number(lifetime)])
 }
 
 /// NAME as NAME, of `backup` and `snapshot`.
@@ -325,10 +304,7 @@ fn push_copied<'a>(out: &mut Vec<u8>, name: &'a Text, bound: &'a Text) -> Result
     ensures { OnOk result (out.new.items
         ≡ out.old.items ++ spaced (map token_text (named name.now ∷ said (codes "as") ∷ named bound.now ∷ []))) }
 {
-    push_tokens(
-        out,
-        &[Token::Name(name), Token::Word(b"as"), Token::Name(bound)],
-    )
+    push_tokens(out, &[Name(name), Word(b"as"), Name(bound)])
 }
 
 /// NAME NAME ID, of `restore`.
@@ -341,14 +317,7 @@ fn push_restored<'a>(
     ensures { OnOk result (out.new.items
         ≡ out.old.items ++ spaced (map token_text (named name.now ∷ named image.now ∷ identified inv ∷ []))) }
 {
-    push_tokens(
-        out,
-        &[
-            Token::Name(name),
-            Token::Name(image),
-            Token::Identifier(inv),
-        ],
-    )
+    push_tokens(out, &[Name(name), Name(image), Identifier(inv)])
 }
 
 /// NAME ID NAME ID, of `install`.
@@ -364,12 +333,7 @@ fn push_installed<'a>(
 {
     push_tokens(
         out,
-        &[
-            Token::Name(name),
-            Token::Identifier(dsa),
-            Token::Name(image),
-            Token::Identifier(inv),
-        ],
+        &[Name(name), Identifier(dsa), Name(image), Identifier(inv)],
     )
 }
 
@@ -381,10 +345,10 @@ fn push_planned(out: &mut Vec<u8>, name: &Text, calls: u32, how: Crash) -> Resul
     push_tokens(
         out,
         &[
-            Token::Name(name),
-            Token::Word(b"after"),
-            Token::Number(u64::from(calls)),
-            Token::Word(crash_word(how)),
+            Name(name),
+            Word(b"after"),
+            Number(u64::from(calls)),
+            Word(crash_word(how)),
         ],
     )
 }
@@ -394,14 +358,7 @@ fn push_failed(out: &mut Vec<u8>, name: &Text, calls: u32) -> Result<(), NoMemor
     ensures { OnOk result (out.new.items
         ≡ out.old.items ++ spaced (map token_text (named name.now ∷ said (codes "after") ∷ numbered calls ∷ []))) }
 {
-    push_tokens(
-        out,
-        &[
-            Token::Name(name),
-            Token::Word(b"after"),
-            Token::Number(u64::from(calls)),
-        ],
-    )
+    push_tokens(out, &[Name(name), Word(b"after"), Number(u64::from(calls))])
 }
 
 /// NAME and what stands behind it, of a write.
@@ -433,9 +390,7 @@ fn push_reported(out: &mut Vec<u8>, name: &Text, what: Report) -> Result<(), NoM
 {
     match what {
         Report::Meta { guid } => push_identified(out, name, guid),
-        Report::Directory | Report::Vector | Report::Marks => {
-            push_tokens(out, &[Token::Name(name)])
-        }
+        Report::Directory | Report::Vector | Report::Marks => { push_tokens(out, &[Name(name)]) }
     }
 }
 
@@ -448,7 +403,7 @@ fn push_behind(out: &mut Vec<u8>, event: &Event) -> Result<(), NoMemory>
 {
     match event {
         Event::Controller { name, dsa, inv } => push_controller(out, name, *dsa, *inv),
-        Event::Time { now } => push_tokens(out, &[Token::Number(*now)]),
+        Event::Time { now } => push_tokens(out, &[Number(*now)]),
         Event::Write { name, what } => push_write(out, name, what),
         Event::Ask {
             name,
@@ -487,7 +442,7 @@ fn push_behind(out: &mut Vec<u8>, event: &Event) -> Result<(), NoMemory>
         Event::Rollback { name, snapshot } => push_used(out, name, snapshot),
         Event::StopAfter { name, calls, how } => push_planned(out, name, *calls, *how),
         Event::Fail { name, calls } => push_failed(out, name, *calls),
-        Event::Stop { name } | Event::Start { name } => { push_tokens(out, &[Token::Name(name)]) }
+        Event::Stop { name } | Event::Start { name } => { push_tokens(out, &[Name(name)]) }
         Event::Report { name, what } => push_reported(out, name, *what),
     }
 }

@@ -39,21 +39,21 @@ removed_more : (t : Tally) (o : Outcome) → (with_outcome t o).removed ≡ t.re
 removed_more t (Removed removed) = refl
 removed_more t o = omega arith
 
-pub refusals_counted : (t : Tally) (told : List Answer) → (counted t told).refused ≡ t.refused + sum_by (λ (a : Answer). refusals_in a.outcome) told
-refusals_counted t [] = omega arith
-refusals_counted t (a ∷ told) =
-    let rest = refusals_counted (with_answer t a) told in
-    let here = refused_more t a.outcome in
-    let all = sum_by-cons (λ (x : Answer). refusals_in x.outcome) a told in
+-- a part of a tally that grows by what each answer adds
+part_counted : (part : Tally → ℕ) (added : Outcome → ℕ) → ((t : Tally) (o : Outcome) → part (with_outcome t o) ≡ part t + added o) → (t : Tally) (told : List Answer)
+    → part (counted t told) ≡ part t + sum_by (λ (a : Answer). added a.outcome) told
+part_counted part added more t [] = omega arith
+part_counted part added more t (a ∷ told) =
+    let rest = part_counted part added more (with_answer t a) told in
+    let here = more t a.outcome in
+    let all = sum_by-cons (λ (x : Answer). added x.outcome) a told in
     omega (arith, rest, here, all)
 
+pub refusals_counted : (t : Tally) (told : List Answer) → (counted t told).refused ≡ t.refused + sum_by (λ (a : Answer). refusals_in a.outcome) told
+refusals_counted = part_counted (λ t. t.refused) refusals_in refused_more
+
 pub removals_counted : (t : Tally) (told : List Answer) → (counted t told).removed ≡ t.removed + sum_by (λ (a : Answer). removals_in a.outcome) told
-removals_counted t [] = omega arith
-removals_counted t (a ∷ told) =
-    let rest = removals_counted (with_answer t a) told in
-    let here = removed_more t a.outcome in
-    let all = sum_by-cons (λ (x : Answer). removals_in x.outcome) a told in
-    omega (arith, rest, here, all)
+removals_counted = part_counted (λ t. t.removed) removals_in removed_more
 
 -- ---- the summary of a run
 

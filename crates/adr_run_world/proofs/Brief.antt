@@ -62,73 +62,29 @@ failed_brief = brief outcomes.Failed tt refl
 
 full_brief : (table : Table) (limit : ℕ) → IsBrief (full table limit)
 full_brief tables.Objects limit = brief _ tt refl
-full_brief tables.Links limit = brief _ tt refl
-full_brief tables.Cursors limit = brief _ tt refl
-full_brief tables.Marks limit = brief _ tt refl
-full_brief tables.Log limit = brief _ tt refl
+full_brief table limit = brief _ tt refl
 
 bad_item_brief : (place : ℕ) (cause : ItemFault) → IsBrief (take_refused (take_refusals.BadItem place cause))
 bad_item_brief place (faults.Schema schema.UnknownClass) = brief _ tt refl
-bad_item_brief place (faults.Schema (schema.UnknownAttribute attr)) = brief _ tt refl
-bad_item_brief place (faults.Schema (schema.NotAllowed attr)) = brief _ tt refl
-bad_item_brief place (faults.Schema (schema.MissingMust attr)) = brief _ tt refl
-bad_item_brief place (faults.Schema (schema.BadValue attr at)) = brief _ tt refl
-bad_item_brief place (faults.Schema (schema.IsLink attr)) = brief _ tt refl
-bad_item_brief place (faults.Schema (schema.NotLink attr)) = brief _ tt refl
-bad_item_brief place (faults.Schema (schema.BadName at)) = brief _ tt refl
-bad_item_brief place faults.WrongBirth = brief _ tt refl
+bad_item_brief place cause = brief _ tt refl
 
 schema_brief : (r : SchemaRefusal) → IsBrief (schema_refused r)
 schema_brief schema.UnknownClass = brief _ tt refl
-schema_brief (schema.UnknownAttribute attr) = brief _ tt refl
-schema_brief (schema.NotAllowed attr) = brief _ tt refl
-schema_brief (schema.MissingMust attr) = brief _ tt refl
-schema_brief (schema.BadValue attr place) = brief _ tt refl
-schema_brief (schema.IsLink attr) = brief _ tt refl
-schema_brief (schema.NotLink attr) = brief _ tt refl
-schema_brief (schema.BadName place) = brief _ tt refl
+schema_brief r = brief _ tt refl
 
 write_brief : (r : WriteRefusal) → IsBrief (write_refused r)
 write_brief (write_refusals.Schema refusal) = schema_brief refusal
-write_brief write_refusals.BadSuperior = brief _ tt refl
-write_brief (write_refusals.NoObject guid) = brief _ tt refl
-write_brief (write_refusals.Deleted guid) = brief _ tt refl
-write_brief (write_refusals.NoParent guid) = brief _ tt refl
-write_brief (write_refusals.NameTaken holder) = brief _ tt refl
-write_brief write_refusals.WouldLoop = brief _ tt refl
-write_brief (write_refusals.HasChildren child) = brief _ tt refl
-write_brief (write_refusals.Fixed guid) = brief _ tt refl
-write_brief (write_refusals.GuidThere guid) = brief _ tt refl
-write_brief write_refusals.LinkThere = brief _ tt refl
-write_brief write_refusals.LinkNotThere = brief _ tt refl
-write_brief (write_refusals.VersionLimit attr) = brief _ tt refl
-write_brief write_refusals.UsnLimit = brief _ tt refl
 write_brief (write_refusals.Full table limit) = full_brief table limit
-write_brief write_refusals.Quarantined = brief _ tt refl
-write_brief (write_refusals.SchemaMismatch mine theirs) = brief _ tt refl
-write_brief (write_refusals.NotInImage guid) = brief _ tt refl
-write_brief (write_refusals.StillLive guid) = brief _ tt refl
-write_brief (write_refusals.BirthThere guid) = brief _ tt refl
+write_brief r = brief _ tt refl
 
 serve_brief : (r : ServeRefusal) → IsBrief (serve_refused r)
 serve_brief serve_refusals.Quarantined = brief _ tt refl
-serve_brief (serve_refusals.WrongController mine asked) = brief _ tt refl
-serve_brief (serve_refusals.BadMark prop obj seen) = brief _ tt refl
-serve_brief (serve_refusals.RolledBack inv mine shown) = brief _ tt refl
-serve_brief (serve_refusals.SchemaMismatch mine theirs) = brief _ tt refl
-serve_brief (serve_refusals.TooOld inv purged has) = brief _ tt refl
+serve_brief r = brief _ tt refl
 
 take_brief : (r : TakeRefusal) → IsBrief (take_refused r)
-take_brief take_refusals.Quarantined = brief _ tt refl
-take_brief (take_refusals.NotMine dest) = brief _ tt refl
-take_brief (take_refusals.Stale mark from) = brief _ tt refl
-take_brief (take_refusals.VectorBehind inv has needs) = brief _ tt refl
-take_brief (take_refusals.SchemaMismatch mine theirs) = brief _ tt refl
-take_brief (take_refusals.RolledBack inv mine shown) = brief _ tt refl
 take_brief (take_refusals.BadItem place cause) = bad_item_brief place cause
-take_brief (take_refusals.Incomplete object) = brief _ tt refl
-take_brief take_refusals.UsnLimit = brief _ tt refl
 take_brief (take_refusals.Full table limit) = full_brief table limit
+take_brief r = brief _ tt refl
 
 collect_brief : (r : CollectRefusal) → IsBrief (collect_refused r)
 collect_brief collect_refusals.Quarantined = brief _ tt refl

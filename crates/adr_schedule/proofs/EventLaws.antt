@@ -143,11 +143,11 @@ add_was line rest verb e h =
       ),
     ))))))) e h
 
--- some values
-modified : (name guid : List ℕ) (values : List Given) (e : Event) → (if length values == 0 then None else Some (Write name (Modify guid values))) ≡ Some e → (0 < length values) × (Write name (Modify guid values) ≡ e)
-modified name guid values e h =
-    let s = unless_some (length values == 0) (Write name (Modify guid values)) e h in
-    let some = eqb-false (length values) 0 s.0 in
+-- where there are some of what a line has to have
+with_some : (count : ℕ) (event e : Event) → (if count == 0 then None else Some event) ≡ Some e → (0 < count) × (event ≡ e)
+with_some count event e h =
+    let s = unless_some (count == 0) event e h in
+    let some = eqb-false count 0 s.0 in
     (omega (arith, some), s.1)
 
 modify_was : Follows verbs.Modify
@@ -156,17 +156,11 @@ modify_was line rest verb e h =
     let P = Spells line in
     each_step P (name_at rest) _ (λ name n. each_step P (identifier_at name.1) _ (λ guid g. each_step P (sets_at guid.1) _ (λ values v event k.
     let s = sets_were guid.1 values v in
-    let m = modified name.0 guid.0 values event k in
+    let m = with_some (length values) (Write name.0 (Modify guid.0 values)) event k in
     subst P m.1 (
       (rising_from s.order values s.give, m.0),
       (s.order, s.give, (rest, verb, (name.1, name_next rest name n, (guid.1, identifier_next name.1 guid g, s.spelled)))),
     )))) e h
-
-ringed : (name : List ℕ) (others : List (List ℕ)) (rounds max : ℕ) (e : Event) → (if length others == 0 then None else Some (Ring name others rounds max)) ≡ Some e → (0 < length others) × (Ring name others rounds max ≡ e)
-ringed name others rounds max e h =
-    let s = unless_some (length others == 0) (Ring name others rounds max) e h in
-    let some = eqb-false (length others) 0 s.0 in
-    (omega (arith, some), s.1)
 
 ring_was : Follows verbs.Ring
 unfolding ring_line tokens_behind
@@ -176,7 +170,7 @@ ring_was line rest verb e h =
     let many = rounds_next rest rounds r in
     let most = limit_next rounds.1 limit l in
     let s = names_were name.0 name.1 others o in
-    let m = ringed name.0 others rounds.0 limit.0 event k in
+    let m = with_some (length others) (Ring name.0 others rounds.0 limit.0) event k in
     subst P m.1 (
       (many.0, most.0, (m.0, s.0)),
       ([], refl, (rest, verb, (rounds.1, many.1, (limit.1, most.1, (name.1, name_next limit.1 name n, s.1))))),

@@ -1,11 +1,10 @@
 -- A token that is spelled is read, and one that was read is spelled.
 use Rattle.std.proofs.Common.{◌≡◌, ◌⊎◌, ℕ, suc, ◌+◌, ◌<◌, ◌≤◌, Bool, true, false, not, cond, List, [], ◌∷◌, length, length-append, Some, None, refl, sym, ap, subst, ◌∙◌, inl, inr, arith}
-use Rattle.std.specs.Prelude.{◌==◌, nat_le, codes}
+use Rattle.std.specs.Prelude.{◌&&◌, ◌==◌, nat_le, codes}
 use Rattle.std.specs.Fmt.{decimal}
 use Rattle.std.specs.List.{position_or_len}
 use Rattle.std.specs.Str.{bytes_eq}
 use Rattle.std.proofs.lemmas.Bool.{and_parts, le-leb, leb-true, ne_eqb}
-use Rattle.std.proofs.lemmas.Bool.Decides.{nat_tests}
 use Rattle.std.proofs.lemmas.Slice.Eq.{bytes_eq-Decides}
 use Rattle.adr_disk.specs.declared.memory.Crash.{Crash}
 use Rattle.adr_disk.specs.declared.memory.Crash.TheVariants.{Kept, Lost, Torn}
@@ -29,7 +28,7 @@ use Rattle.adr_token.proofs.ClassLaws.{classes_again, classes_spelled, attribute
 use Rattle.adr_token.proofs.SetLaws.{sets_again, sets_spelled}
 use Rattle.adr_schedule.specs.Limits.{ask_limit, plan_limit, rounds_limit}
 use Rattle.adr_schedule.specs.Crashes.{crash_of, crash_word, crashes}
-use Rattle.adr_schedule.specs.Commands.{are_rounds, bound_at, calls_at, crash_at, is_limit, limit_at, rounds_at}
+use Rattle.adr_schedule.specs.Commands.{bound_at, calls_at, crash_at, limit_at, number_between, rounds_at}
 use Rattle.adr_schedule.specs.Grammar.{Word, Name, Number, Identifier, Class, Attribute, Quoted, Set, AreRounds, IsLimit, IsNext}
 
 -- spaces in front say nothing
@@ -121,12 +120,17 @@ text_read text bytes rest w =
     let s = stands_as w.0 (text_token text) bytes rest w.1.1 w.2 in
     ap text_at s.0 ∙ texts_again text rest w.1.0 s.1
 
-pub limit_true : (n : ℕ) → IsLimit n → is_limit n ≡ true
-limit_true n h = grind (arith, nat_tests)
+-- and a number between two others
+between_read : (least greatest n : ℕ) (bytes rest : List ℕ) → (least ≤ n) × (n ≤ greatest) → IsNext (Number n) bytes rest
+    → number_between least greatest bytes ≡ Some (n, rest)
+unfolding number_between
+between_read least greatest n bytes rest h w = rw (number_read n bytes rest w, le-leb least n h.0, le-leb n greatest h.1) refl
 
 pub limit_read : (n : ℕ) (bytes rest : List ℕ) → IsLimit n → IsNext (Number n) bytes rest → limit_at bytes ≡ Some (n, rest)
-unfolding limit_at
-limit_read n bytes rest h w = rw (number_read n bytes rest w, limit_true n h) refl
+limit_read = between_read 1 ask_limit
+
+pub rounds_read : (n : ℕ) (bytes rest : List ℕ) → AreRounds n → IsNext (Number n) bytes rest → rounds_at bytes ≡ Some (n, rest)
+rounds_read = between_read 1 rounds_limit
 
 pub bound_read : (name bytes between rest : List ℕ) → IsNext (Word (codes "as")) bytes between → IsNext (Name name) between rest → bound_at bytes ≡ Some (name, rest)
 unfolding bound_at said
@@ -134,7 +138,7 @@ bound_read name bytes between rest w n = rw (word_read (codes "as") bytes betwee
 
 pub calls_read : (n : ℕ) (bytes between rest : List ℕ) → n ≤ plan_limit → IsNext (Word (codes "after")) bytes between → IsNext (Number n) between rest → calls_at bytes ≡ Some (n, rest)
 unfolding calls_at said
-calls_read n bytes between rest most w c = rw (word_read (codes "after") bytes between refl (omega arith) w, number_read n between rest c, le-leb n plan_limit most) refl
+calls_read n bytes between rest most w c = rw (word_read (codes "after") bytes between refl (omega arith) w, between_read 0 plan_limit n between rest (omega arith, most) c) refl
 
 pub crash_read : (how : Crash) (bytes rest : List ℕ) → IsNext (Word (crash_word how)) bytes rest → crash_at bytes ≡ Some (how, rest)
 unfolding crash_at
@@ -174,19 +178,23 @@ identifier_next bytes t h = let w = identifiers_spelled bytes t.0 t.1 h in eithe
 pub text_next : (bytes : List ℕ) (t : Read) → text_at (unspaced bytes) ≡ Some t → IsNext (Quoted t.0) bytes t.1
 text_next bytes t h = let w = texts_spelled (unspaced bytes) t.0 t.1 h in (text_token t.0, (w.0, refl), (w.1, w.2))
 
--- a limit is a number
-abbrev Limited : ℕ × List ℕ → List ℕ → Type 0
-Limited t bytes = IsLimit t.0 × IsNext (Number t.0) bytes t.1
+-- a number between two others
+abbrev Between : ℕ → ℕ → List ℕ → ℕ × List ℕ → Type 0
+Between least greatest bytes t = ((least ≤ t.0) × (t.0 ≤ greatest)) × IsNext (Number t.0) bytes t.1
 
-limit_small : (n : ℕ) → is_limit n ≡ true → IsLimit n
-limit_small n h = let p = and_parts (nat_le 1 n) (nat_le n ask_limit) h in (leb-true 1 n p.0, leb-true n ask_limit p.1)
+between_next : (least greatest : ℕ) (bytes : List ℕ) (t : ℕ × List ℕ) → number_between least greatest bytes ≡ Some t → Between least greatest bytes t
+unfolding number_between
+between_next least greatest bytes t h =
+    let s = bind_some (number_at bytes) (λ number. cond (nat_le least number.0 && nat_le number.0 greatest) (Some number) None) t h in
+    let w = if_some (nat_le least s.0.0 && nat_le s.0.0 greatest) s.0 t s.2 in
+    let p = and_parts (nat_le least s.0.0) (nat_le s.0.0 greatest) w.0 in
+    subst (Between least greatest bytes) w.1 ((leb-true least s.0.0 p.0, leb-true s.0.0 greatest p.1), number_next bytes s.0 s.1)
 
 pub limit_next : (bytes : List ℕ) (t : ℕ × List ℕ) → limit_at bytes ≡ Some t → IsLimit t.0 × IsNext (Number t.0) bytes t.1
-unfolding limit_at
-limit_next bytes t h =
-    let s = bind_some (number_at bytes) (λ limit. cond (is_limit limit.0) (Some limit) None) t h in
-    let w = if_some (is_limit s.0.0) s.0 t s.2 in
-    subst (λ (x : ℕ × List ℕ). Limited x bytes) w.1 (limit_small s.0.0 w.0, number_next bytes s.0 s.1)
+limit_next = between_next 1 ask_limit
+
+pub rounds_next : (bytes : List ℕ) (t : ℕ × List ℕ) → rounds_at bytes ≡ Some t → AreRounds t.0 × IsNext (Number t.0) bytes t.1
+rounds_next = between_next 1 rounds_limit
 
 -- a name behind `as`
 said_next : (what bytes : List ℕ) (t : Unit {0} × List ℕ) → said what bytes ≡ Some t → IsNext (Word what) bytes t.1
@@ -204,17 +212,13 @@ bound_next bytes t h =
     (s.0.1, said_next (codes "as") bytes s.0 s.1, name_next s.0.1 t s.2)
 
 -- a number of calls, behind `after`
-abbrev Planned : List ℕ → ℕ × List ℕ → Type 0
-Planned bytes t = (t.0 ≤ plan_limit) × ((between : List ℕ) × IsNext (Word (codes "after")) bytes between × IsNext (Number t.0) between t.1)
-
 pub calls_next : (bytes : List ℕ) (t : ℕ × List ℕ) → calls_at bytes ≡ Some t
     → (t.0 ≤ plan_limit) × ((between : List ℕ) × IsNext (Word (codes "after")) bytes between × IsNext (Number t.0) between t.1)
 unfolding calls_at
 calls_next bytes t h =
-    let s = bind_some (said (codes "after") bytes) (λ word. number_at word.1 >>= λ calls. cond (nat_le calls.0 plan_limit) (Some calls) None) t h in
-    let n = bind_some (number_at s.0.1) (λ calls. cond (nat_le calls.0 plan_limit) (Some calls) None) t s.2 in
-    let w = if_some (nat_le n.0.0 plan_limit) n.0 t n.2 in
-    subst (Planned bytes) w.1 (leb-true n.0.0 plan_limit w.0, (s.0.1, said_next (codes "after") bytes s.0 s.1, number_next s.0.1 n.0 n.1))
+    let s = bind_some (said (codes "after") bytes) (λ word. number_between 0 plan_limit word.1) t h in
+    let n = between_next 0 plan_limit s.0.1 t s.2 in
+    (n.0.1, (s.0.1, said_next (codes "after") bytes s.0 s.1, n.1))
 
 pub crash_next : (bytes : List ℕ) (t : Crash × List ℕ) → crash_at bytes ≡ Some t → IsNext (Word (crash_word t.0)) bytes t.1
 unfolding crash_at
@@ -233,17 +237,3 @@ attribute_next bytes t h = attributes_spelled bytes t.0 t.1 h
 
 pub set_next : (bytes : List ℕ) (t : Given × List ℕ) → set_at bytes ≡ Some t → IsNext (Set t.0.0 t.0.1) bytes t.1
 set_next bytes t h = sets_spelled bytes t.0.0 t.0.1 t.1 h
-
--- ---- how many rounds
-
-pub rounds_read : (n : ℕ) (bytes rest : List ℕ) → AreRounds n → IsNext (Number n) bytes rest → rounds_at bytes ≡ Some (n, rest)
-unfolding rounds_at
-rounds_read n bytes rest h w = let t : are_rounds n ≡ true = grind (arith, nat_tests) in rw (number_read n bytes rest w, t) refl
-
-pub rounds_next : (bytes : List ℕ) (t : ℕ × List ℕ) → rounds_at bytes ≡ Some t → AreRounds t.0 × IsNext (Number t.0) bytes t.1
-unfolding rounds_at
-rounds_next bytes t h =
-    let s = bind_some (number_at bytes) (λ rounds. cond (are_rounds rounds.0) (Some rounds) None) t h in
-    let w = if_some (are_rounds s.0.0) s.0 t s.2 in
-    let p = and_parts (nat_le 1 s.0.0) (nat_le s.0.0 rounds_limit) w.0 in
-    subst (λ (x : ℕ × List ℕ). AreRounds x.0 × IsNext (Number x.0) bytes x.1) w.1 ((leb-true 1 s.0.0 p.0, leb-true s.0.0 rounds_limit p.1), number_next bytes s.0 s.1)

@@ -54,15 +54,15 @@ link_line what bytes = do
   to ← identifier_at attr.1
   ended to.1 (Write name.0 (what from.0 attr.0 to.0))
 
--- how many items may be asked for
-abbrev pub is_limit : ℕ → Bool
-is_limit limit = nat_le 1 limit && nat_le limit ask_limit
+-- NUM, between a least and a greatest one
+unfoldable pub number_between : ℕ → ℕ → List ℕ → Reading ℕ
+number_between least greatest bytes = do
+  number ← number_at bytes
+  if nat_le least number.0 && nat_le number.0 greatest then Some number else None
 
--- MAX
-unfoldable pub limit_at : List ℕ → Reading ℕ
-limit_at bytes = do
-  limit ← number_at bytes
-  if is_limit limit.0 then Some limit else None
+-- MAX: how many items are asked for
+abbrev pub limit_at : List ℕ → Reading ℕ
+limit_at bytes = number_between 1 ask_limit bytes
 
 -- NAME NAME MAX
 unfoldable pub pull_line : (List ℕ → List ℕ → ℕ → Event) → List ℕ → Option Event
@@ -89,8 +89,7 @@ binding_line event bytes = do
 unfoldable pub calls_at : List ℕ → Reading ℕ
 calls_at bytes = do
   word ← said (codes "after") bytes
-  calls ← number_at word.1
-  if nat_le calls.0 plan_limit then Some calls else None
+  number_between 0 plan_limit word.1
 
 -- HOW
 unfoldable pub crash_at : List ℕ → Reading Crash
@@ -131,13 +130,8 @@ modify_line bytes = do
   if length values == 0 then None else Some (Write name.0 (Modify guid.0 values))
 
 -- how many rounds
-abbrev pub are_rounds : ℕ → Bool
-are_rounds rounds = nat_le 1 rounds && nat_le rounds rounds_limit
-
-unfoldable pub rounds_at : List ℕ → Reading ℕ
-rounds_at bytes = do
-  rounds ← number_at bytes
-  if are_rounds rounds.0 then Some rounds else None
+abbrev pub rounds_at : List ℕ → Reading ℕ
+rounds_at bytes = number_between 1 rounds_limit bytes
 
 -- ROUNDS MAX NAME NAME.., each name once
 unfoldable pub ring_line : List ℕ → Option Event

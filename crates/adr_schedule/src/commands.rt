@@ -3,7 +3,7 @@
 ghost use Rattle.std.specs.Prelude.{◌≡◌, ◌==◌, ◌<◌, Some, None};
 ghost use Rattle.adr_token.specs.Gives.{Gives, Answers};
 ghost use Rattle.adr_token.specs.Words.{ended};
-ghost use Rattle.adr_schedule.specs.Commands.{add_line, ask_line, binding_line, bound_at, by_verb, calls_at, collect_line, controller_line, crash_at, delete_line, event_of, fail_line, install_line, is_passed, limit_at, link_line, meta_line, modify_line, pull_line, rename_line, report_line, restore_line, ring_line, rounds_at, serve_line, start_line, stop_after, stop_line, time_line, use_line};
+ghost use Rattle.adr_schedule.specs.Commands.{add_line, ask_line, binding_line, bound_at, by_verb, calls_at, collect_line, controller_line, crash_at, delete_line, event_of, fail_line, install_line, is_passed, limit_at, link_line, meta_line, modify_line, number_between, pull_line, rename_line, report_line, restore_line, ring_line, serve_line, start_line, stop_after, stop_line, time_line, use_line};
 ghost use Rattle.adr_schedule.specs.Shared.{copied, linked, pulled, used};
 
 use crate::crashes::crash_of;
@@ -84,17 +84,24 @@ fn linked(alloc: Global, verb: LinkVerb, line: &mut Line<'_>) -> Result<Event, S
     ended(line, Event::Write { name, what })
 }
 
-/// MAX: how many items are asked for.
-#[tactic(auto, unfolding(crate::specs::Commands::limit_at))]
-fn limit(line: &mut Line<'_>) -> Result<u32, Stop>
-    ensures { Gives result line.new (limit_at line.old) }
+/// A number between a least and a greatest one.
+#[tactic(auto, unfolding(crate::specs::Commands::number_between))]
+fn number_between(line: &mut Line<'_>, least: u32, greatest: u32) -> Result<u32, Stop>
+    ensures { Gives result line.new (number_between least greatest line.old) }
 {
     let number = line.number()?;
-    if 1 <= number && number <= ASK_LIMIT {
+    if u64::from(least) <= number && number <= u64::from(greatest) {
         Ok(number as u32)
     } else {
         Err(Failure::Refused(Bad))
     }
+}
+
+/// MAX: how many items are asked for.
+fn limit(line: &mut Line<'_>) -> Result<u32, Stop>
+    ensures { Gives result line.new (limit_at line.old) }
+{
+    number_between(line, 1, ASK_LIMIT)
 }
 
 /// NAME NAME MAX, behind `pull` or `cycle`.
@@ -174,25 +181,12 @@ fn add(alloc: Global, line: &mut Line<'_>) -> Result<Event, Stop>
     Ok(Event::Write { name, what })
 }
 
-/// How many rounds.
-#[tactic(auto, unfolding(crate::specs::Commands::rounds_at))]
-fn rounds(line: &mut Line<'_>) -> Result<u32, Stop>
-    ensures { Gives result line.new (rounds_at line.old) }
-{
-    let number = line.number()?;
-    if 1 <= number && number <= ROUNDS_LIMIT {
-        Ok(number as u32)
-    } else {
-        Err(Failure::Refused(Bad))
-    }
-}
-
 /// ROUNDS MAX NAME NAME.., each name once.
 #[tactic(auto, unfolding(crate::specs::Commands::ring_line))]
 fn ring(alloc: Global, line: &mut Line<'_>) -> Result<Event, Stop>
     ensures { Answers result (ring_line line.old) }
 {
-    let rounds = rounds(line)?;
+    let rounds = number_between(line, 1, ROUNDS_LIMIT)?;
     let max = limit(line)?;
     let name = line.name(alloc)?;
     let others = members(alloc, &name, line)?;
@@ -325,12 +319,7 @@ fn calls(line: &mut Line<'_>) -> Result<u32, Stop>
     ensures { Gives result line.new (calls_at line.old) }
 {
     line.said(b"after")?;
-    let number = line.number()?;
-    if number <= PLAN_LIMIT {
-        Ok(number as u32)
-    } else {
-        Err(Failure::Refused(Bad))
-    }
+    number_between(line, 0, PLAN_LIMIT)
 }
 
 /// HOW

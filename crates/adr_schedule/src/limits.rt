@@ -7,10 +7,10 @@ pub const TEXT_LIMIT: usize = 16_777_216;
 pub const CONTROLLER_LIMIT: usize = 64;
 
 /// The items that a line asks for.
-pub const ASK_LIMIT: u64 = 10_000;
+pub const ASK_LIMIT: u32 = 10_000;
 
 /// The device calls that a plan lets pass.
-pub const PLAN_LIMIT: u64 = 1_000;
+pub const PLAN_LIMIT: u32 = 1_000;
 
 /// The rounds of a ring.
-pub const ROUNDS_LIMIT: u64 = 126;
+pub const ROUNDS_LIMIT: u32 = 126;

@@ -2,32 +2,10 @@
 
 ghost use Rattle.std.specs.Prelude.{◌<◌};
 
-use adr_cmd::run;
-use adr_run_disk::MemDisk;
-use adr_test_io::{MemSink, MemSource};
-use adr_test_outside::{MemClock, MemFresh, MemNet};
+use adr_test_memory::Failing::Never;
+use adr_test_memory::{Failing, Memory};
 use std::alloc::Global;
 use std::test::Fail;
-
-/// Which calls of a source and of a sink fail: the one after so many.
-#[derive(Clone, Copy, Debug)]
-struct Failing {
-    read: Option<u32>,
-    write: Option<u32>,
-}
-
-const NEVER: Failing = Failing {
-    read: None,
-    write: None,
-};
-
-fn said(alloc: Global, words: &[&str]) -> Result<Vec<String>, Fail> {
-    let mut said = Vec::new(alloc);
-    for word in words {
-        said.push(String::from_str(alloc, word)?)?;
-    }
-    Ok(said)
-}
 
 /// The status of the words over a text that is read in pieces, and what was written.
 fn outcome(
@@ -39,29 +17,10 @@ fn outcome(
 ) -> Result<(u8, Vec<u8>), Fail>
     requires { 0 < piece }
 {
-    let words = said(alloc, words)?;
-    let mut source = MemSource::new(Vec::from_slice(alloc, text)?, piece);
-    if let Some(calls) = failing.read {
-        source.fail_after(calls);
-    }
-    let mut sink = MemSink::new(alloc);
-    if let Some(calls) = failing.write {
-        sink.fail_after(calls);
-    }
-    let mut net = MemNet::new(alloc, Vec::new(alloc));
-    let mut clock = MemClock::new(Vec::new(alloc));
-    let mut fresh = MemFresh::new(Vec::new(alloc));
-    let (status, _disk) = run(
-        alloc,
-        words.as_slice(),
-        &mut source,
-        &mut sink,
-        MemDisk::new(alloc),
-        &mut net,
-        &mut clock,
-        &mut fresh,
-    );
-    Ok((status, Vec::from_slice(alloc, sink.bytes())?))
+    let mut memory = Memory::new(alloc, text, piece)?;
+    memory.fail(failing);
+    let (status, after) = memory.run(alloc, words)?;
+    Ok((status, Vec::from_slice(alloc, after.sink.bytes())?))
 }
 
 const PEOPLE: &[u8] =
@@ -88,7 +47,7 @@ fn usage_for_other_words(rt: HostRuntime) -> Result<(), Fail> {
         &["pull", "A", "0"],
     ];
     for words in cases {
-        let (status, written) = outcome(rt.alloc(), words, PEOPLE, 7, NEVER)?;
+        let (status, written) = outcome(rt.alloc(), words, PEOPLE, 7, Never)?;
         assert_eq!(rt; status, 2);
         assert_eq!(rt; written.as_slice(), usage.as_bytes());
     }
@@ -116,14 +75,11 @@ const EXERCISES: [(&str, &str); 3] = [
 fn generated_schedules(rt: HostRuntime) -> Result<(), Fail> {
     for (number, line) in EXERCISES {
         let words = ["exercise", number];
-        let (status, written) = outcome(rt.alloc(), &words, PEOPLE, 7, NEVER)?;
+        let (status, written) = outcome(rt.alloc(), &words, PEOPLE, 7, Never)?;
         assert_eq!(rt; status, 0);
         assert_eq!(rt; written.as_slice(), line.as_bytes());
     }
-    let failing = Failing {
-        read: None,
-        write: Some(0),
-    };
+    let failing = Failing::Sink(0);
     let (status, written) = outcome(rt.alloc(), &["exercise", "1"], PEOPLE, 7, failing)?;
     assert_eq!(rt; status, 5);
     assert_eq!(rt; written.len(), 0);
@@ -134,11 +90,11 @@ fn generated_schedules(rt: HostRuntime) -> Result<(), Fail> {
 fn a_text_that_is_too_long(rt: HostRuntime) -> Result<(), Fail> {
     let mut text = Vec::new(rt.alloc());
     text.resize(16_777_216, b'\n')?;
-    let (status, written) = outcome(rt.alloc(), &["replay"], text.as_slice(), 65_536, NEVER)?;
+    let (status, written) = outcome(rt.alloc(), &["replay"], text.as_slice(), 65_536, Never)?;
     assert_eq!(rt; status, 0);
     assert_eq!(rt; written.len(), 0);
     text.push(b'\n')?;
-    let (status, written) = outcome(rt.alloc(), &["replay"], text.as_slice(), 65_536, NEVER)?;
+    let (status, written) = outcome(rt.alloc(), &["replay"], text.as_slice(), 65_536, Never)?;
     assert_eq!(rt; status, 3);
     assert_eq!(rt; written.as_slice(), b"line 0: too long\n".as_slice());
     Ok(())
@@ -147,10 +103,7 @@ fn a_text_that_is_too_long(rt: HostRuntime) -> Result<(), Fail> {
 #[test]
 fn a_read_that_fails_at_each_turn(rt: HostRuntime) -> Result<(), Fail> {
     for calls in 0..24 {
-        let failing = Failing {
-            read: Some(calls),
-            write: None,
-        };
+        let failing = Failing::Source(calls);
         let (status, written) = outcome(rt.alloc(), &["replay"], PEOPLE, 7, failing)?;
         // 126 bytes are 18 reads, and the end is one more.
         assert_eq!(rt; status, if calls < 19 { 4 } else { 0 }, "after {calls}");
@@ -163,16 +116,13 @@ fn a_read_that_fails_at_each_turn(rt: HostRuntime) -> Result<(), Fail> {
 fn a_write_that_fails_at_each_turn(rt: HostRuntime) -> Result<(), Fail> {
     let mut due = Vec::new(rt.alloc());
     for calls in 0..4u32 {
-        let failing = Failing {
-            read: None,
-            write: Some(calls),
-        };
+        let failing = Failing::Sink(calls);
         let (status, written) = outcome(rt.alloc(), &["replay"], PEOPLE, 7, failing)?;
         assert_eq!(rt; status, 5, "after {calls}");
         assert_eq!(rt; written.as_slice(), due.as_slice(), "after {calls}");
         due.extend_from_slice(PEOPLE_WRITTEN[calls as usize].as_bytes())?;
     }
-    let (status, written) = outcome(rt.alloc(), &["replay"], PEOPLE, 7, NEVER)?;
+    let (status, written) = outcome(rt.alloc(), &["replay"], PEOPLE, 7, Never)?;
     assert_eq!(rt; status, 0);
     assert_eq!(rt; written.as_slice(), due.as_slice());
     Ok(())
@@ -198,7 +148,7 @@ fn changed_again_and_again(alloc: Global) -> Result<String, Fail> {
 #[test]
 fn a_log_that_was_written_anew(rt: HostRuntime) -> Result<(), Fail> {
     let text = changed_again_and_again(rt.alloc())?;
-    let (status, written) = outcome(rt.alloc(), &["replay"], text.as_bytes(), 65_536, NEVER)?;
+    let (status, written) = outcome(rt.alloc(), &["replay"], text.as_bytes(), 65_536, Never)?;
     assert_eq!(rt; status, 0);
     let due =
         "modify A: ok usn=3001\nstop A: ok\nstart A: ok\nshow A: 1\n  #10 container parent=#1 name=\"x\" description=\"3000\"\n";

@@ -1,5 +1,6 @@
 //! Each command by its words, and words that are none.
 
+use adr_test_memory::said;
 use adr_words::{Command, DiskCommand, command};
 use std::alloc::Global;
 use std::test::Fail;
@@ -32,14 +33,6 @@ const CASES: [(&[&str], &str); 25] = [
     (&["serve", "N1", "65536", "1"], "none"),
     (&["serve", "N1", "4000", "1001"], "none"),
 ];
-
-fn said(alloc: Global, words: &[&str]) -> Result<Vec<String>, Fail> {
-    let mut said = Vec::new(alloc);
-    for word in words {
-        said.push(String::from_str(alloc, word)?)?;
-    }
-    Ok(said)
-}
 
 /// The word and values of a command over a disk.
 fn told_on_disk(alloc: Global, command: &DiskCommand) -> Result<String, Fail> {

@@ -1,10 +1,8 @@
 //! Nodes over networks in memory, one command after the other. Expected bytes are worked out by hand.
 
-use adr_cmd::run;
-use adr_guid::Guid;
 use adr_run_disk::MemDisk;
-use adr_test_io::{MemSink, MemSource};
-use adr_test_outside::{MemClock, MemFresh, MemNet};
+use adr_test_memory::{Failing, Memory, identifiers};
+use adr_test_outside::{MemClock, MemNet};
 use std::alloc::Global;
 use std::test::Fail;
 
@@ -20,45 +18,15 @@ struct Case {
     sent: &'static [&'static [u8]],
 }
 
-/// Which call fails: the one after so many.
-#[derive(Clone, Copy)]
-enum Failing {
-    Never,
-    Net(u32),
-    Clock(u32),
-    Disk(u32),
-    Sink(u32),
-    Source(u32),
-}
-
-/// What came of a command.
-#[derive(Drop)]
-struct Ended {
-    status: u8,
-    written: Vec<u8>,
-    net: MemNet,
-    disk: MemDisk,
-}
-
-impl Ended {
-    fn into_disk(self) -> MemDisk {
-        let Ended {
-            written: _written,
-            net: _net,
-            disk,
-            ..
-        } = self;
-        disk
-    }
-}
-
-fn said(alloc: Global, words: &[&str]) -> Result<Vec<String>, Fail> {
-    let mut said = Vec::new(alloc);
-    for word in words {
-        said.push(String::from_str(alloc, word)?)?;
-    }
-    Ok(said)
-}
+/// A command that is given and writes nothing.
+const DONE: Case = Case {
+    words: &[],
+    came: &[],
+    source: b"",
+    status: 0,
+    written: b"",
+    sent: &[],
+};
 
 fn connections(alloc: Global, came: &[&[u8]]) -> Result<Vec<Vec<u8>>, Fail> {
     let mut connections = Vec::new(alloc);
@@ -68,96 +36,37 @@ fn connections(alloc: Global, came: &[&[u8]]) -> Result<Vec<Vec<u8>>, Fail> {
     Ok(connections)
 }
 
-fn identifiers(alloc: Global) -> Result<MemFresh, Fail> {
-    let mut given = Vec::new(alloc);
-    given.push(Guid::from_u128(0xa0))?;
-    given.push(Guid::from_u128(0xa1))?;
-    Ok(MemFresh::new(given))
-}
-
-fn net_of(alloc: Global, came: Vec<Vec<u8>>, failing: Failing) -> MemNet {
-    let mut net = MemNet::new(alloc, came);
-    if let Failing::Net(calls) = failing {
-        net.fail_after(calls);
-    }
-    net
-}
-
-fn clock_of(alloc: Global, failing: Failing) -> Result<MemClock, Fail> {
-    let mut clock = MemClock::new(Vec::from_slice(alloc, &[10, 20, 30])?);
-    if let Failing::Clock(calls) = failing {
-        clock.fail_after(calls);
-    }
-    Ok(clock)
-}
-
-fn source_of(alloc: Global, bytes: &[u8], failing: Failing) -> Result<MemSource, Fail> {
-    let mut source = MemSource::new(Vec::from_slice(alloc, bytes)?, 7);
-    if let Failing::Source(calls) = failing {
-        source.fail_after(calls);
-    }
-    Ok(source)
-}
-
-fn sink_of(alloc: Global, failing: Failing) -> MemSink {
-    let mut sink = MemSink::new(alloc);
-    if let Failing::Sink(calls) = failing {
-        sink.fail_after(calls);
-    }
-    sink
-}
-
+/// The status, and what has become of all.
 fn outcome(
     alloc: Global,
-    words: &[&str],
-    source: &[u8],
-    mut net: MemNet,
-    mut disk: MemDisk,
+    case: &Case,
+    net: MemNet,
+    disk: MemDisk,
     failing: Failing,
-) -> Result<Ended, Fail> {
-    let words = said(alloc, words)?;
-    let mut source = source_of(alloc, source, failing)?;
-    let mut sink = sink_of(alloc, failing);
-    if let Failing::Disk(calls) = failing {
-        disk.fail_after(calls);
-    }
-    let mut clock = clock_of(alloc, failing)?;
-    let mut fresh = identifiers(alloc)?;
-    let (status, disk) = run(
-        alloc,
-        words.as_slice(),
-        &mut source,
-        &mut sink,
-        disk,
-        &mut net,
-        &mut clock,
-        &mut fresh,
-    );
-    Ok(Ended {
-        status,
-        written: Vec::from_slice(alloc, sink.bytes())?,
-        net,
-        disk,
-    })
+) -> Result<(u8, Memory), Fail> {
+    let mut memory = Memory::new(alloc, case.source, 7)?;
+    memory.net = net;
+    memory.disk = disk;
+    memory.clock = MemClock::new(Vec::from_slice(alloc, &[10, 20, 30])?);
+    memory.fresh = identifiers(alloc, &[0xa0, 0xa1])?;
+    memory.fail(failing);
+    Ok(memory.run(alloc, case.words)?)
 }
 
-fn outcome_of(alloc: Global, case: &Case, disk: MemDisk, failing: Failing) -> Result<Ended, Fail> {
-    let net = net_of(alloc, connections(alloc, case.came)?, failing);
-    outcome(alloc, case.words, case.source, net, disk, failing)
+fn outcome_of(
+    alloc: Global,
+    case: &Case,
+    disk: MemDisk,
+    failing: Failing,
+) -> Result<(u8, Memory), Fail> {
+    let net = MemNet::new(alloc, connections(alloc, case.came)?);
+    outcome(alloc, case, net, disk, failing)
 }
 
 /// The disk of a new controller, of the identifiers `#a0` and `#a1`.
 fn made(alloc: Global) -> Result<MemDisk, Fail> {
-    let net = net_of(alloc, Vec::new(alloc), Failing::Never);
-    let came = outcome(
-        alloc,
-        &["create", "N1"],
-        b"",
-        net,
-        MemDisk::new(alloc),
-        Failing::Never,
-    )?;
-    Ok(came.into_disk())
+    let (_, after) = outcome_of(alloc, &SERVED[0], MemDisk::new(alloc), Failing::Never)?;
+    Ok(after.into_disk())
 }
 
 /// A line that adds a container, and its answer, as frames.
@@ -188,35 +97,26 @@ const OTHER_SCHEMA: &[u8] =
 const SERVED: &[Case] = &[
     Case {
         words: &["create", "N1"],
-        came: &[],
-        source: b"",
-        status: 0,
         written: b"create N1: ok\n",
-        sent: &[],
+        ..DONE
     },
     Case {
         words: &["serve", "N1", "4000", "1"],
         came: &[ADD],
-        source: b"",
-        status: 0,
         written: b"connection 1: 1 end\n",
         sent: &[ADDED],
+        ..DONE
     },
     Case {
         words: &["export", "N1"],
-        came: &[],
-        source: b"",
-        status: 0,
         written: b"[{\"class\":\"container\",\"guid\":\"00000000-0000-0000-0000-000000000010\",\"links\":{},\"name\":\"x\",\"parent\":\"00000000-0000-0000-0000-000000000001\",\"values\":{}}]\n",
-        sent: &[],
+        ..DONE
     },
     Case {
         words: &["create", "N1"],
-        came: &[],
-        source: b"",
         status: 9,
         written: b"refused NotEmpty\n",
-        sent: &[],
+        ..DONE
     },
     Case {
         words: &["serve", "N1", "4000", "3"],
@@ -225,22 +125,18 @@ const SERVED: &[Case] = &[
             b"\0\0\0\x01\x06\0\0\0\x01\x09\0\0\0\x01\x06",
             b"\0\0\0\x01\x06\0\0",
         ],
-        source: b"",
-        status: 0,
         written: b"connection 1: 2 end\nconnection 2: 1 malformed\nconnection 3: 1 malformed\n",
         sent: &[
             b"\0\0\0\x11\x05delete: ok usn=2\0\0\0\x09\x05bad line",
             b"\0\0\0\x11\x07\0\0\0\0\0\0\0\0\0\0\0\0\0\0\0\xa0",
             b"\0\0\0\x11\x07\0\0\0\0\0\0\0\0\0\0\0\0\0\0\0\xa0",
         ],
+        ..DONE
     },
     Case {
         words: &["show", "N1"],
-        came: &[],
-        source: b"",
-        status: 0,
         written: b"show N1: 0\n",
-        sent: &[],
+        ..DONE
     },
 ];
 
@@ -249,44 +145,39 @@ const CALLED: &[Case] = &[
     Case {
         words: &["pull", "N1", "4000"],
         came: &[NOTHING],
-        source: b"",
-        status: 0,
         written: b"deliver N1: ok items=0 wrote=0 usn=0\n",
         sent: &[ASKED],
+        ..DONE
     },
     Case {
         words: &["pull", "N1", "4000"],
         came: &[CUT],
-        source: b"",
         status: 14,
-        written: b"",
         sent: &[ASKED],
+        ..DONE
     },
     Case {
         words: &["pull", "N1", "4000"],
         came: &[OTHER_SCHEMA],
-        source: b"",
         status: 9,
         written: b"refused 31 SchemaMismatch mine=2 theirs=1\n",
         sent: &[ASKED],
+        ..DONE
     },
     Case {
         words: &["pull", "N1", "4000"],
-        came: &[],
-        source: b"",
         status: 7,
-        written: b"",
-        sent: &[],
+        ..DONE
     },
     Case {
         words: &["send", "4000"],
         came: &[b"\0\0\0\x0e\x05add: ok usn=1\0\0\0\x0e\x05add: ok usn=2"],
         source: b"add #10 container #1 \"x\"\n; a comment\nadd #11 container #1 \"y\"\n",
-        status: 0,
         written: b"add: ok usn=1\nadd: ok usn=2\n",
         sent: &[
             b"\0\0\0\x19\x04add #10 container #1 \"x\"\0\0\0\x19\x04add #11 container #1 \"y\"",
         ],
+        ..DONE
     },
     Case {
         words: &["send", "4000"],
@@ -310,7 +201,7 @@ const CALLED: &[Case] = &[
         source: b"delete #10\nstop\n",
         status: 3,
         written: b"line 2: no command\n",
-        sent: &[],
+        ..DONE
     },
     Case {
         words: &["send", "4000"],
@@ -318,7 +209,7 @@ const CALLED: &[Case] = &[
         source: b"\xff\n",
         status: 3,
         written: b"line 1: not UTF-8\n",
-        sent: &[],
+        ..DONE
     },
 ];
 
@@ -339,9 +230,9 @@ fn has_sent(net: &MemNet, due: &[&[u8]]) -> bool {
 fn a_client_is_served(rt: HostRuntime) -> Result<(), Fail> {
     let mut disk = MemDisk::new(rt.alloc());
     for case in SERVED {
-        let came = outcome_of(rt.alloc(), case, disk, Failing::Never)?;
-        assert_eq!(rt; came.status, case.status);
-        assert_eq!(rt; came.written.as_slice(), case.written);
+        let (status, came) = outcome_of(rt.alloc(), case, disk, Failing::Never)?;
+        assert_eq!(rt; status, case.status);
+        assert_eq!(rt; came.sink.bytes(), case.written);
         assert!(rt; has_sent(&came.net, case.sent));
         disk = came.into_disk();
     }
@@ -351,9 +242,9 @@ fn a_client_is_served(rt: HostRuntime) -> Result<(), Fail> {
 #[test]
 fn other_nodes_are_called(rt: HostRuntime) -> Result<(), Fail> {
     for case in CALLED {
-        let came = outcome_of(rt.alloc(), case, made(rt.alloc())?, Failing::Never)?;
-        assert_eq!(rt; came.status, case.status);
-        assert_eq!(rt; came.written.as_slice(), case.written);
+        let (status, came) = outcome_of(rt.alloc(), case, made(rt.alloc())?, Failing::Never)?;
+        assert_eq!(rt; status, case.status);
+        assert_eq!(rt; came.sink.bytes(), case.written);
         assert!(rt; has_sent(&came.net, case.sent));
     }
     Ok(())
@@ -379,10 +270,10 @@ const FAULTS: &[(Failing, u8, &[u8])] = &[
 
 #[test]
 fn a_call_that_fails_in_a_serve(rt: HostRuntime) -> Result<(), Fail> {
-    for (failing, status, written) in FAULTS {
-        let came = outcome_of(rt.alloc(), &SERVED[1], made(rt.alloc())?, *failing)?;
-        assert_eq!(rt; came.status, *status);
-        assert_eq!(rt; came.written.as_slice(), *written);
+    for (failing, due, written) in FAULTS {
+        let (status, came) = outcome_of(rt.alloc(), &SERVED[1], made(rt.alloc())?, *failing)?;
+        assert_eq!(rt; status, *due);
+        assert_eq!(rt; came.sink.bytes(), *written);
     }
     Ok(())
 }
@@ -406,10 +297,10 @@ const PULL_FAULTS: &[(Failing, u8)] = &[
 
 #[test]
 fn a_call_that_fails_in_a_pull(rt: HostRuntime) -> Result<(), Fail> {
-    for (failing, status) in PULL_FAULTS {
-        let came = outcome_of(rt.alloc(), &CALLED[0], made(rt.alloc())?, *failing)?;
-        assert_eq!(rt; came.status, *status);
-        assert!(rt; came.written.is_empty());
+    for (failing, due) in PULL_FAULTS {
+        let (status, came) = outcome_of(rt.alloc(), &CALLED[0], made(rt.alloc())?, *failing)?;
+        assert_eq!(rt; status, *due);
+        assert!(rt; came.sink.bytes().is_empty());
     }
     Ok(())
 }
@@ -424,9 +315,9 @@ fn a_call_that_fails_in_a_send(rt: HostRuntime) -> Result<(), Fail> {
         (Failing::Net(2), 7),
         (Failing::Sink(0), 5),
     ] {
-        let came = outcome_of(rt.alloc(), &CALLED[4], MemDisk::new(rt.alloc()), failing)?;
-        assert_eq!(rt; came.status, due);
-        assert!(rt; came.written.is_empty());
+        let (status, came) = outcome_of(rt.alloc(), &CALLED[4], MemDisk::new(rt.alloc()), failing)?;
+        assert_eq!(rt; status, due);
+        assert!(rt; came.sink.bytes().is_empty());
     }
     Ok(())
 }
@@ -434,9 +325,9 @@ fn a_call_that_fails_in_a_send(rt: HostRuntime) -> Result<(), Fail> {
 #[test]
 fn bytes_that_are_no_log_are_not_served(rt: HostRuntime) -> Result<(), Fail> {
     let disk = MemDisk::of(rt.alloc(), Vec::from_slice(rt.alloc(), b"abc")?);
-    let came = outcome_of(rt.alloc(), &SERVED[1], disk, Failing::Never)?;
-    assert_eq!(rt; came.status, 10);
-    assert_eq!(rt; came.written.as_slice(), b"damaged 0\n".as_slice());
+    let (status, came) = outcome_of(rt.alloc(), &SERVED[1], disk, Failing::Never)?;
+    assert_eq!(rt; status, 10);
+    assert_eq!(rt; came.sink.bytes(), b"damaged 0\n".as_slice());
     assert!(rt; has_sent(&came.net, &[]));
     Ok(())
 }
@@ -449,17 +340,17 @@ fn a_connection_has_a_million_messages(rt: HostRuntime) -> Result<(), Fail> {
     }
     let mut all = Vec::new(rt.alloc());
     all.push(came)?;
-    let came = outcome(
+    let net = MemNet::new(rt.alloc(), all);
+    let (status, came) = outcome(
         rt.alloc(),
-        SERVED[1].words,
-        b"",
-        net_of(rt.alloc(), all, Failing::Never),
+        &SERVED[1],
+        net,
         made(rt.alloc())?,
         Failing::Never,
     )?;
-    assert_eq!(rt; came.status, 0);
+    assert_eq!(rt; status, 0);
     assert_eq!(rt;
-        came.written.as_slice(),
+        came.sink.bytes(),
         b"connection 1: 1000000 limit\n".as_slice()
     );
     for sent in came.net.sent() {

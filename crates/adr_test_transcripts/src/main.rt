@@ -2,10 +2,7 @@
 //! line that it answers: a line that begins with `;> ` is what the program has to write there.
 #![tactic(auto)]
 
-use adr_cmd::run;
-use adr_run_disk::MemDisk;
-use adr_test_io::{MemSink, MemSource};
-use adr_test_outside::{MemClock, MemFresh, MemNet};
+use adr_test_memory::Memory;
 use std::alloc::Global;
 use std::process::ExitCode;
 use std::{env, fs, io};
@@ -27,29 +24,13 @@ fn answers_in(alloc: Global, schedule: &[u8]) -> io::Result<Vec<u8>> {
 
 /// Whether the program writes these answers for the schedule, of which it is given some bytes at a time.
 fn is_answered(alloc: Global, schedule: &[u8], answers: &[u8]) -> io::Result<bool> {
-    let mut words = Vec::new(alloc);
-    words.push(String::from_str(alloc, "replay")?)?;
-    let mut source = MemSource::new(Vec::from_slice(alloc, schedule)?, 7);
-    let mut sink = MemSink::new(alloc);
-    let mut net = MemNet::new(alloc, Vec::new(alloc));
-    let mut clock = MemClock::new(Vec::new(alloc));
-    let mut fresh = MemFresh::new(Vec::new(alloc));
-    let (status, _disk) = run(
-        alloc,
-        words.as_slice(),
-        &mut source,
-        &mut sink,
-        MemDisk::new(alloc),
-        &mut net,
-        &mut clock,
-        &mut fresh,
-    );
+    let (status, after) = Memory::new(alloc, schedule, 7)?.run(alloc, &["replay"])?;
     let due = if answers.starts_with(b"line ".as_slice()) {
         3
     } else {
         0
     };
-    Ok(status == due && sink.bytes() == answers)
+    Ok(status == due && after.sink.bytes() == answers)
 }
 
 /// Whether the schedule in a file is answered as it says.
@@ -62,9 +43,7 @@ fn is_as_written(rt: &HostRuntime, name: &str) -> io::Result<bool> {
 /// Whether all are as written; each is told.
 fn are_as_written(rt: &HostRuntime) -> io::Result<bool> {
     let mut all = true;
-    let mut names = env::args(rt)?;
-    let _program = names.next();
-    for name in names {
+    for name in env::args(rt)?.skip(1) {
         let same = is_as_written(rt, name.as_str())?;
         let told = if same { "as written" } else { "other answers" };
         println!(rt; "{name}: {told}")?;

@@ -9,7 +9,7 @@ returns-in-Err-clause-unbegun g c =
     let d = g.D.Disk in
     let mid = c.attach.new.self in
     let e = c.in-Err.ensures in
-    let u = c.unattached in
+    let u = c.by_fault in
     let same = kept d c.args.disk mid e.keeps e.cause.never_falls in
     wanting (of_disk d) g.S.Sink c.args.disk mid c.args.sink.now c.args.sink.now u.result
     (wants_by (of_disk d) c.args.disk mid c.in-Err.fault u.result u.ensures.failed u.ensures.no_memory (λ is. e.cause.failed (ap Err is)) same.told)

@@ -40,5 +40,5 @@ returns-in-Err-clause-begins g c =
 pub returns-in-Err-clause-ends : goal.returns-in-Err-clause-ends
 returns-in-Err-clause-ends g c =
     let e = c.in-Err.ensures in
-    ends_short Unit (of_disk g.D.Disk) c.args.state c.args.disk c.sync.new.self c.in-Err.fault c.disk_failed.result c.disk_failed.ensures.failed c.disk_failed.ensures.no_memory
+    ends_short Unit (of_disk g.D.Disk) c.args.state c.args.disk c.sync.new.self c.in-Err.fault c.by_fault.result c.by_fault.ensures.failed c.by_fault.ensures.no_memory
     (λ is. e.cause.failed (ap Err is)) (λ is. ap (option_map (start_of front_at area_at following_in)) (e.no_memory (ap Err is)).content_stays)

@@ -1,7 +1,7 @@
 use Rattle.std.proofs.Common.{sym, subst}
 use Rattle.adr_node.specs.Looks.{Looks, bytes_of, due_of, refuses}
 use Rattle.adr_node.specs.Seen.{of_disk}
-use Rattle.adr_node.specs.declared.ended.BackedUp.{BackedUp}
+use Rattle.adr_node.specs.declared.ended.Looked.{Looked}
 use Rattle.adr_node.proofs.Mirrored.{looks_over, off, over}
 use Rattle.adr_node.proofs.Started.{unbegun_looks}
 use Rattle.adr_node.proofs.waking.look.Goals as goal
@@ -22,5 +22,5 @@ pub returns-in-Err : goal.returns-in-Err
 returns-in-Err g c =
     let due = due_of (refuses c.args.sight) (bytes_of c.args.sight c.args.name.now) in
     let e = c.in-Err.ensures in
-    subst (λ (how : BackedUp). Looks (of_disk g.D.Disk) g.K.Sink due c.args.disk c.in-Err.disk c.args.sink.now c.begin.new.sink how) (sym c.unseen.ensures)
+    subst (λ (how : Looked). Looks (of_disk g.D.Disk) g.K.Sink due c.args.disk c.in-Err.disk c.args.sink.now c.begin.new.sink how) (sym c.unseen.ensures)
     (unbegun_looks (of_disk g.D.Disk) g.K.Sink (refuses c.args.sight) (bytes_of c.args.sight c.args.name.now) c.args.disk c.in-Err.disk c.args.sink.now c.begin.new.sink c.in-Err.why e.unbegun)

@@ -3,7 +3,7 @@ use Rattle.std.specs.Prelude.{IsTrue}
 use Rattle.adr_model.specs.Store.{updates_of}
 use Rattle.adr_view.specs.BackLinks.{have_back_links}
 use Rattle.adr_view.specs.Named.{AreNamed}
-use Rattle.adr_node.proofs.exporting.export_bytes.Goals as goal
+use Rattle.adr_node.proofs.sights.export_bytes.Goals as goal
 
 pub directory-requires-clause-links : goal.directory-requires-clause-links
 directory-requires-clause-links c =

@@ -1,5 +1,5 @@
 use Rattle.adr_model.specs.Store.{updates_of}
-use Rattle.adr_node.proofs.showing.show_bytes.Goals as goal
+use Rattle.adr_node.proofs.sights.show_bytes.Goals as goal
 
 pub report-requires-clause-links : goal.report-requires-clause-links
 report-requires-clause-links c =
