@@ -53,14 +53,9 @@ abbrev pub Left : ℕ → Option Traffic → Option Traffic → Type 0
 Left most first now = IfSome first (λ t. now ≡ Some (with_left t (drop most t.left)))
 
 -- there are as many as were wanted
-pub received_most : (first now : Option Traffic) (bytes : List ℕ) (most : ℕ) → HasCome first now bytes → length bytes ≡ most
-    → Received most first bytes
-received_most None now bytes most come len = tt
-received_most (Some t) now bytes most come len = subst (λ n. bytes ≡ take n t.left) len come.1
-
-pub left_most : (first now : Option Traffic) (bytes : List ℕ) (most : ℕ) → HasCome first now bytes → length bytes ≡ most → Left most first now
-left_most None now bytes most come len = tt
-left_most (Some t) now bytes most come len = subst (λ n. now ≡ Some (with_left t (drop n t.left))) len come.2
+pub all_come : (first now : Option Traffic) (bytes : List ℕ) (most : ℕ) → HasCome first now bytes → length bytes ≡ most → Received most first bytes × Left most first now
+all_come None now bytes most come len = (tt, tt)
+all_come (Some t) now bytes most come len = (subst (λ n. bytes ≡ take n t.left) len come.1, subst (λ n. now ≡ Some (with_left t (drop n t.left))) len come.2)
 
 -- nothing was left
 none_left : (t : Traffic) (now : Option Traffic) (n : ℕ) → now ≡ Some (with_left t (drop n t.left))
@@ -70,18 +65,12 @@ none_left t now n is ended =
     let size : length (drop n t.left) ≡ 0 = ap length none in
     omega (arith, length-drop n t.left)
 
-pub received_ended : (first now next : Option Traffic) (bytes more : List ℕ) (n most : ℕ) → HasCome first now bytes → Piece now next bytes more n
-    → length more ≡ length bytes + n → IfSome now (λ u. u.left ≡ []) → length bytes ≤ most → Received most first more
-received_ended None now next bytes more n most come piece len ended small = tt
-received_ended (Some t) now next bytes more n most come piece len ended small =
+pub all_ended : (first now next : Option Traffic) (bytes more : List ℕ) (n most : ℕ) → HasCome first now bytes → Piece now next bytes more n
+    → length more ≡ length bytes + n → IfSome now (λ u. u.left ≡ []) → length bytes ≤ most → Received most first more × Left most first next
+all_ended None now next bytes more n most come piece len ended small = (tt, tt)
+all_ended (Some t) now next bytes more n most come piece len ended small =
     let all = none_left t now (length bytes) come.2 ended in
-    let rest = come_more (Some t) now next bytes more n come piece len in
-    rest.1 ∙ take_all (length more) t.left (omega arith) ∙ sym (take_all most t.left (omega arith))
-
-pub left_ended : (first now next : Option Traffic) (bytes more : List ℕ) (n most : ℕ) → HasCome first now bytes → Piece now next bytes more n
-    → length more ≡ length bytes + n → IfSome now (λ u. u.left ≡ []) → length bytes ≤ most → Left most first next
-left_ended None now next bytes more n most come piece len ended small = tt
-left_ended (Some t) now next bytes more n most come piece len ended small =
-    let all = none_left t now (length bytes) come.2 ended in
-    let rest = come_more (Some t) now next bytes more n come piece len in
-    rest.2 ∙ ap (λ (xs : List ℕ). Some (with_left t xs)) (drop_all (length more) t.left (omega arith) ∙ sym (drop_all most t.left (omega arith)))
+    let rest = come_more (Some t) now next bytes more n come piece len in (
+      rest.1 ∙ take_all (length more) t.left (omega arith) ∙ sym (take_all most t.left (omega arith)),
+      rest.2 ∙ ap (λ (xs : List ℕ). Some (with_left t xs)) (drop_all (length more) t.left (omega arith) ∙ sym (drop_all most t.left (omega arith))),
+    )

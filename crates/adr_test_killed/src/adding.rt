@@ -44,26 +44,7 @@ fn add<K: Keeper>(alloc: Global, controller: &mut Controller<K>, number: u64) ->
     Ok(controller.write(alloc, &what, 0)?)
 }
 
-/// Adds so many objects, and tells each as soon as it is acknowledged.
-fn add_all<K: Keeper>(
-    rt: &HostRuntime,
-    controller: &mut Controller<K>,
-    first: u64,
-    count: u64,
-) -> Result<(), Ending>
-    requires { AdditionsFollow K.Keeper }
-{
-    for number in first..first.saturating_add(count) {
-        let usn = add(rt.alloc(), controller, number)?;
-        tell(
-            rt,
-            format!(in rt.alloc(); "added {number} {usn}\n")?.as_str(),
-        )?;
-    }
-    Ok(())
-}
-
-/// Tells where a controller stands that was started, and adds so many objects.
+/// Tells where a controller stands that was started, and adds so many objects, each told as soon as it is acknowledged.
 fn go_on<K: Keeper>(
     rt: &HostRuntime,
     controller: &mut Controller<K>,
@@ -74,7 +55,14 @@ fn go_on<K: Keeper>(
 {
     let usn = usn_of(controller)?;
     tell(rt, format!(in rt.alloc(); "started {usn}\n")?.as_str())?;
-    add_all(rt, controller, first, count)
+    for number in first..first.saturating_add(count) {
+        let usn = add(rt.alloc(), controller, number)?;
+        tell(
+            rt,
+            format!(in rt.alloc(); "added {number} {usn}\n")?.as_str(),
+        )?;
+    }
+    Ok(())
 }
 
 /// Starts the controller in a file, and adds so many objects.

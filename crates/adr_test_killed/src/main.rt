@@ -21,13 +21,7 @@ use std::{env, io};
 
 /// The words, without the program's name.
 fn words(rt: &HostRuntime) -> io::Result<Vec<String>> {
-    let mut words = Vec::new(rt.alloc());
-    let mut args = env::args(rt)?;
-    let _program = args.next();
-    for word in args {
-        words.push(word)?;
-    }
-    Ok(words)
+    Ok(env::args(rt)?.skip(1).collect(rt.alloc())?)
 }
 
 /// A number in decimal.
