@@ -1,7 +1,7 @@
 //! Commands over one disk, one after the other, and calls that fail in them. Expected bytes are worked out by hand.
 
+use crate::memory::{Failing, Memory, identifiers};
 use adr_run_disk::MemDisk;
-use adr_test_memory::{Failing, Memory, identifiers};
 use std::alloc::Global;
 use std::test::Fail;
 

@@ -2,8 +2,8 @@
 
 ghost use Rattle.std.specs.Prelude.{◌<◌};
 
-use adr_test_memory::Failing::Never;
-use adr_test_memory::{Failing, Memory};
+use crate::memory::Failing::Never;
+use crate::memory::{Failing, Memory};
 use std::alloc::Global;
 use std::test::Fail;
 

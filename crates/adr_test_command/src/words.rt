@@ -1,6 +1,6 @@
 //! Each command by its words, and words that are none.
 
-use adr_test_memory::said;
+use crate::memory::said;
 use adr_words::{Command, DiskCommand, command};
 use std::alloc::Global;
 use std::test::Fail;

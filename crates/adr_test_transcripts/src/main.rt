@@ -2,7 +2,7 @@
 //! line that it answers: a line that begins with `;> ` is what the program has to write there.
 #![tactic(auto)]
 
-use adr_test_memory::Memory;
+use adr_test_command::Memory;
 use std::alloc::Global;
 use std::process::ExitCode;
 use std::{env, fs, io};

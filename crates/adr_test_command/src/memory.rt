@@ -1,6 +1,5 @@
 //! The program's top call over a source, a sink, a disk, a network, a clock and identifiers in memory, each of which can be
 //! told to fail at a call. It is for tests, and doesn't know what the words mean.
-#![tactic(auto)]
 
 ghost use Rattle.std.specs.Prelude.{◌≡◌, ◌<◌};
 
