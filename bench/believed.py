@@ -154,6 +154,10 @@ def resolved(whole):
         found = name and declared(crate, name)
         return found and (found[0], re.search(r"\w+$", name)[0])
     path = f"{crate}/specs/{parts[2]}.antt"
+    if not (CRATES / path).exists():
+        # A file of a crate below, which this one passes on.
+        below = re.search(rf"^pub use Rattle\.(\w+)\.specs\.{parts[2]}$", code(f"{crate}/specs/Lib.antt"), re.M)[1]
+        return resolved(".".join([below, *parts[1:]]))
     return (path, antt(path)[1].get(parts[3])) if len(parts) > 3 else None
 
 

@@ -2,11 +2,11 @@
 
 ghost use Rattle.std.specs.Prelude.{◌≡◌, ◌⊎◌, ◌<◌, ◌≤◌, ◌+◌, ℕ, List, [], map, string_bytes, IfSome, drop, Some};
 ghost use Rattle.adr_io.specs.Told.{Adds, AddsFront};
-ghost use Rattle.adr_law_headline.specs.Headline.{IsHeadline};
+ghost use Rattle.adr_run_replay.specs.Headline.{IsHeadline};
 ghost use Rattle.adr_answers.specs.Laws.{EqualLinesMeanEqualDirectories};
 ghost use Rattle.adr_json.specs.Laws.{EqualJsonMeansEqualDirectories};
-ghost use Rattle.adr_run_exercised.specs.Exercised.{ExercisesEndEqual};
-ghost use Rattle.adr_law_exported.specs.Exportable.{TextsAreExportable};
+ghost use Rattle.adr_run_replay.specs.Exercised.{ExercisesEndEqual};
+ghost use Rattle.adr_run_replay.specs.Exportable.{TextsAreExportable};
 ghost use Rattle.adr_schedule.specs.Limits.{text_limit};
 ghost use Rattle.adr_run_replay.specs.Outcome.{Gives, GeneratedRunsAreSo, TextsGiveOne, exercised};
 ghost use Rattle.adr_run_replay.specs.Shown.{AtEachShow};

@@ -1,7 +1,7 @@
 //! Nodes over networks in memory, one command after the other. Expected bytes are worked out by hand.
 
+use crate::memory::{Failing, Memory, identifiers};
 use adr_run_disk::MemDisk;
-use adr_test_command::{Failing, Memory, identifiers};
 use adr_test_outside::{MemClock, MemNet};
 use std::alloc::Global;
 use std::test::Fail;
