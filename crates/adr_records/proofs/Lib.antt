@@ -3,3 +3,5 @@ mod Heads
 mod Anew
 mod Making
 mod Adoption
+mod Left
+mod Seen

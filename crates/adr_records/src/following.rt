@@ -5,9 +5,9 @@ ghost use Rattle.adr_image.specs.Changes.{HasBody};
 ghost use Rattle.adr_records.specs.Body.{are_locals_within, by_change, following, following_in};
 ghost use Rattle.adr_records.specs.Logged.{IsLogged};
 
+use crate::follow::can_follow;
 use crate::head::AREA_VERSION;
 use adr_failure::Failure;
-use adr_follow::can_follow;
 use adr_image::decode_change;
 use adr_journal::FollowRefusal;
 use adr_state::{Change, State};

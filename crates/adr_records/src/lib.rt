@@ -3,16 +3,24 @@
 //!
 //! This crate ties the images and bodies of `adr_image` to the journals of `adr_journal`, and makes a controller of what an
 //! image says: the start of its own log does that, and an adoption under a fresh invocation identifier, and nothing else. What an area begins with and what its records say is read again as it was written, each state of a log is
-//! formed, and a record is refused that can't follow the state before it. It knows nothing of disks, gates and of where
+//! formed, and a record is refused that can't follow the state before it. That is told by its numbers, by each write at its turn, by what it
+//! removes, and by the objects and links that it touches (`follow.rt`), over the rows that `adr_overlay` tells. It knows nothing of disks, gates and of where
 //! areas stand.
 #![tactic(auto)]
 
 mod adopting;
 mod contents;
+mod follow;
 mod following;
+mod forms;
 mod head;
+mod numbers;
 mod records;
+mod removed;
+mod touched;
+mod vectors;
 mod waking;
+mod writes;
 
 pub use adopting::adopt;
 pub use adr_journal::{Change, FollowRefusal, Form, NoMemory, State};

@@ -9,3 +9,4 @@ pub mod FrameAnswers
 pub mod CallAnswers
 pub mod FrameKinds
 pub mod LineDeeds
+pub mod Saying

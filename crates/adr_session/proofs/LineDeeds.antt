@@ -4,7 +4,7 @@ use Rattle.std.specs.Option.{option_and_then}
 use Rattle.adr_event.specs.declared.event.Event.{Event}
 use Rattle.adr_event.specs.declared.event.Event.TheVariants as events
 use Rattle.adr_schedule.specs.Commands.{event_of}
-use Rattle.adr_law_lines.specs.Said.{LinesSayGivenCalls}
+use Rattle.adr_session.specs.Said.{LinesSayGivenCalls}
 use Rattle.adr_session.specs.Lines.{IsGivenDeed, deed_of, named}
 
 deeds_given : LinesSayGivenCalls → (line : List ℕ) (e : Event) → event_of line ≡ Some e → IfSome (deed_of e) IsGivenDeed

@@ -4,3 +4,4 @@ pub mod Told
 pub mod Worked
 pub mod Made
 pub mod Turns
+pub mod Said

@@ -10,6 +10,7 @@ mod answering;
 mod ending;
 mod framing;
 mod laws;
+mod line_laws;
 mod lines;
 mod replying;
 mod serving;

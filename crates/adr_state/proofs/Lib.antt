@@ -1,3 +1,8 @@
 mod ItemLengths
 mod Tied
 mod Known
+mod Alive
+mod Core
+mod Drafting
+mod Gaps
+mod Reserved

@@ -1,12 +1,18 @@
 //! A controller's state in memory: its rows and the live objects that they make, what it has seen and collected, and how
 //! far it has read each partner, what a change makes of them, how long it is as bytes, and where its log stands on a disk.
 //!
-//! It stands on the table of rows, on the tree of live objects and on the vectors, ties them together, and meets the
-//! definitions in `adr_model`. It knows nothing of why a change is made, of messages, or of the disk.
+//! What a change makes of the live objects is told for each GUID that it touches, by the rows of those GUIDs alone
+//! (`edits.rt`). It stands on the table of rows, on the tree of live objects and on the vectors, ties them together, and
+//! meets the definitions in `adr_model`. It knows nothing of why a change is made, of messages, or of the disk.
 #![tactic(auto)]
 
+mod draft;
+mod drafts;
+mod edits;
 mod lengths;
+mod live;
 mod marks;
+mod node;
 mod rows;
 mod state;
 

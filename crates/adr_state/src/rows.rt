@@ -18,8 +18,8 @@ ghost use Rattle.adr_table.specs.Table.{IsKept, rows_in};
 ghost use Rattle.adr_tree.specs.Parent.{IsParent};
 
 use crate::NoMemory;
+use crate::edits::edits_of;
 use adr_guid::Guid;
-use adr_live::edits_of;
 use adr_schema::Text;
 use adr_stamp::{Oid, Unit};
 use adr_table::Table;

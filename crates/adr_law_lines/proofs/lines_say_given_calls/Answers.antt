@@ -1,8 +1,0 @@
-use Rattle.adr_law_lines.proofs.Saying.{lines_given, lines_typed}
-use Rattle.adr_law_lines.proofs.lines_say_given_calls.Goals as goal
-
-pub returns-clause-typed : goal.returns-clause-typed
-returns-clause-typed c = lines_typed
-
-pub returns-clause-given : goal.returns-clause-given
-returns-clause-given c = lines_given

@@ -1,5 +1,0 @@
-mod Alive
-mod Core
-mod Drafting
-mod Gaps
-mod Reserved

@@ -1,4 +1,0 @@
-pub mod Alive
-pub mod Core
-pub mod Drafts
-pub mod Gap
