@@ -16,18 +16,6 @@ use Rattle.adr_node.specs.Looks.{Due, Looks}
 use Rattle.adr_node.specs.declared.ended.Looked.{Looked}
 use Rattle.adr_node.specs.declared.ended.Unbegun.{Unbegun}
 
--- what two calls keep
-pub keeps_both : {D C O : Type 0} (content : D → Option C) (may_leave : D → O → Type 0) (moment : D → ℕ) (left_since : D → ℕ → O → Type 0) (old mid new : D)
-    → Keeps content may_leave moment left_since old mid → Keeps content may_leave moment left_since mid new → Keeps content may_leave moment left_since old new
-keeps_both content may_leave moment left_since old mid new first second = record {
-  content_stays = second.content_stays ∙ first.content_stays;
-  no_more = λ x left. first.no_more x (second.no_more x left);
-  no_fewer = λ x left. second.no_fewer x (first.no_fewer x left);
-  moment_stays = second.moment_stays ∙ first.moment_stays;
-  past_stays = λ t x left. first.past_stays t x (second.past_stays t x left);
-  past_kept = λ t x left. second.past_kept t x (first.past_kept t x left);
-}
-
 -- what is kept mirrors
 pub kept : {D : Type 0} (d : DiskGhosts D) (old new : D) → Keeps d.content d.may_leave d.moment d.left_since old new → d.faults old ≤ d.faults new
     → Mirrors (of_disk d) old (of_disk d) new
