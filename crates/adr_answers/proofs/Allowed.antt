@@ -6,18 +6,18 @@ use Rattle.std.specs.Option.{option_map}
 use Rattle.std.specs.Int.Signed.{mag}
 use Rattle.std.proofs.lemmas.Bool.{and_parts, eqb-true, leb-true, ltb-true}
 use Rattle.std.proofs.lemmas.Option.{slice_get-get_or}
-use Rattle.adr_schema.specs.declared.content.Value.{Value as Item}
-use Rattle.adr_schema.specs.declared.content.Value.TheVariants.{Text, Number, Flag, Octets, Ref}
-use Rattle.adr_schema.specs.declared.table.Kind.{Kind}
-use Rattle.adr_schema.specs.declared.table.Kind.TheVariants.{Plain}
-use Rattle.adr_schema.specs.declared.table.Syntax.{Syntax}
-use Rattle.adr_schema.specs.declared.table.Syntax.TheVariants.{Text as OfText, Number as OfNumber, Flag as OfFlag, Octets as OfOctets, Ref as OfRef}
-use Rattle.adr_schema.specs.Extends.{Extends}
-use Rattle.adr_schema.specs.Numbered.{numbered}
-use Rattle.adr_schema.specs.Schemas.{newest, schema_2}
-use Rattle.adr_schema.specs.Table.{Attribute, Table, attribute_at, is_back, is_forward, is_link, kind_at}
-use Rattle.adr_schema.specs.Values.{fits}
-use Rattle.adr_schema.proofs.Extending.{second_is_last}
+use Rattle.adr_values.specs.declared.content.Value.{Value as Item}
+use Rattle.adr_values.specs.declared.content.Value.TheVariants.{Text, Number, Flag, Octets, Ref}
+use Rattle.adr_values.specs.declared.table.Kind.{Kind}
+use Rattle.adr_values.specs.declared.table.Kind.TheVariants.{Plain}
+use Rattle.adr_values.specs.declared.table.Syntax.{Syntax}
+use Rattle.adr_values.specs.declared.table.Syntax.TheVariants.{Text as OfText, Number as OfNumber, Flag as OfFlag, Octets as OfOctets, Ref as OfRef}
+use Rattle.adr_values.specs.Extends.{Extends}
+use Rattle.adr_values.specs.Numbered.{numbered}
+use Rattle.adr_values.specs.Schemas.{newest, schema_2}
+use Rattle.adr_values.specs.Table.{Attribute, Table, attribute_at, is_back, is_forward, is_link, kind_at}
+use Rattle.adr_values.specs.Values.{fits}
+use Rattle.adr_values.proofs.Extending.{second_is_last}
 use Rattle.adr_token.proofs.Lists.{found, mapped}
 use Rattle.adr_answers.specs.Laws.{AllowedValuesArePrintable, IsWholeReference, KnownClassesArePrintable, LinksArePrintable}
 use Rattle.adr_answers.specs.Printable.{IsPrintableValue}

@@ -4,9 +4,9 @@ use Rattle.std.specs.Prelude.{codes, All}
 use Rattle.std.proofs.lemmas.Bool.{both_ways}
 use Rattle.std.proofs.lemmas.List.{append_cancel_left}
 use Rattle.std.proofs.lemmas.List.Elements.{All-head}
-use Rattle.adr_schema.specs.declared.content.Value.{Value as Item}
-use Rattle.adr_schema.specs.Schemas.{newest}
-use Rattle.adr_schema.specs.Table.{is_link, kind_at}
+use Rattle.adr_values.specs.declared.content.Value.{Value as Item}
+use Rattle.adr_values.specs.Schemas.{newest}
+use Rattle.adr_values.specs.Table.{is_link, kind_at}
 use Rattle.adr_call.specs.declared.directory.Entry.{Entry}
 use Rattle.adr_token.specs.Laws.{IsIdentifier}
 use Rattle.adr_token.specs.Spelling.{identifier_token, class_token, attribute_token, set_token, text_token, values_token}

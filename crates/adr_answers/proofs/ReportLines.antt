@@ -5,7 +5,7 @@ use Rattle.std.specs.Fmt.{decimal}
 use Rattle.std.proofs.lemmas.Fmt.{decimal_injective}
 use Rattle.std.proofs.lemmas.List.{append_cancel_left}
 use Rattle.adr_call.specs.declared.directory.Entry.{Entry}
-use Rattle.adr_vector.specs.declared.mark.Mark.{Mark}
+use Rattle.adr_values.specs.declared.mark.Mark.{Mark}
 use Rattle.adr_call.specs.declared.outcome.Outcome.{Outcome}
 use Rattle.adr_call.specs.declared.outcome.Outcome.TheVariants.{Show, Vector, Marks}
 use Rattle.adr_answers.specs.Line.{cursor_line, entry_line, line, partner_line, report_lines, result_text}

@@ -8,8 +8,8 @@ use Rattle.std.proofs.lemmas.Bool.Decides.{nat_tests}
 use Rattle.std.proofs.lemmas.Fmt.{decimal_nonempty, signed_decimal_injective}
 use Rattle.std.proofs.lemmas.List.Elements.{All-head, All-tail}
 use Rattle.uuid.specs.Text.{hex_digit, lower}
-use Rattle.adr_schema.specs.declared.content.Value.{Value as Item}
-use Rattle.adr_schema.specs.declared.content.Value.TheVariants.{Text, Number, Flag, Octets, Ref}
+use Rattle.adr_values.specs.declared.content.Value.{Value as Item}
+use Rattle.adr_values.specs.declared.content.Value.TheVariants.{Text, Number, Flag, Octets, Ref}
 use Rattle.adr_token.specs.Laws.{IsIdentifier}
 use Rattle.adr_token.specs.Spelling.{flag_text, identifier_text, identifier_token, text_token, two_figures, value_token, values_token}
 use Rattle.adr_token.proofs.Lists.{all_more}

@@ -1,11 +1,11 @@
 -- The laws of the lines: what a report writes tells what it reports.
 use Rattle.std.specs.Prelude.{◌≡◌, ◌<◌, ◌+◌, ◌^◌, ℕ, List, ◌++◌, length, codes, All, true, IsSome}
-use Rattle.adr_vector.specs.declared.mark.Mark.{Mark}
-use Rattle.adr_schema.specs.declared.content.Value.{Value as Item}
-use Rattle.adr_schema.specs.declared.content.Value.TheVariants.{Text, Number, Flag, Octets, Ref}
-use Rattle.adr_schema.specs.Allowed.{IsAllowed}
-use Rattle.adr_schema.specs.Numbered.{numbered}
-use Rattle.adr_schema.specs.Table.{class_at, is_forward, kind_at}
+use Rattle.adr_values.specs.declared.mark.Mark.{Mark}
+use Rattle.adr_values.specs.declared.content.Value.{Value as Item}
+use Rattle.adr_values.specs.declared.content.Value.TheVariants.{Text, Number, Flag, Octets, Ref}
+use Rattle.adr_values.specs.Allowed.{IsAllowed}
+use Rattle.adr_values.specs.Numbered.{numbered}
+use Rattle.adr_values.specs.Table.{class_at, is_forward, kind_at}
 use Rattle.adr_call.specs.declared.outcome.Outcome.{Outcome}
 use Rattle.adr_call.specs.declared.outcome.Outcome.TheVariants.{Show, Vector, Marks}
 use Rattle.adr_call.specs.declared.directory.Entry.{Entry}

@@ -1,8 +1,8 @@
 -- How an answer is written: its line, and the lines of a report behind it.
 use Rattle.std.specs.Prelude.{ℕ, List, Bool, true, false, [], ◌∷◌, ◌++◌, length, flat_map, codes}
 use Rattle.std.specs.Fmt.{decimal}
-use Rattle.adr_schema.specs.declared.content.Value.{Value as Item}
-use Rattle.adr_vector.specs.declared.mark.Mark.{Mark}
+use Rattle.adr_values.specs.declared.content.Value.{Value as Item}
+use Rattle.adr_values.specs.declared.mark.Mark.{Mark}
 use Rattle.adr_event.specs.declared.answer.Answer.{Answer}
 use Rattle.adr_call.specs.declared.outcome.Field.{Field}
 use Rattle.adr_call.specs.declared.outcome.Plainly.{Plainly}

@@ -1,11 +1,11 @@
 -- What is needed of an entry, of a cursor and of a mark so that no other one has its line.
 use Rattle.std.specs.Prelude.{◌≡◌, ◌<◌, ◌^◌, ℕ, List, true, false, All}
 use Rattle.std.specs.Int.Signed.{mag}
-use Rattle.adr_schema.specs.declared.content.Value.{Value as Item}
-use Rattle.adr_schema.specs.declared.content.Value.TheVariants.{Text, Number, Flag, Octets, Ref}
-use Rattle.adr_schema.specs.Schemas.{newest}
-use Rattle.adr_schema.specs.Table.{is_link, kind_at}
-use Rattle.adr_vector.specs.declared.mark.Mark.{Mark}
+use Rattle.adr_values.specs.declared.content.Value.{Value as Item}
+use Rattle.adr_values.specs.declared.content.Value.TheVariants.{Text, Number, Flag, Octets, Ref}
+use Rattle.adr_values.specs.Schemas.{newest}
+use Rattle.adr_values.specs.Table.{is_link, kind_at}
+use Rattle.adr_values.specs.declared.mark.Mark.{Mark}
 use Rattle.adr_call.specs.declared.directory.Entry.{Entry}
 use Rattle.adr_token.specs.Laws.{IsIdentifier}
 

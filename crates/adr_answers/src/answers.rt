@@ -6,7 +6,7 @@ ghost use Rattle.adr_answers.specs.Alone.{HasOneAnswer};
 
 use adr_call::Outcome;
 use adr_event::{Answer, Event};
-use adr_schema::{NoMemory, Text};
+use adr_values::{NoMemory, Text};
 use std::alloc::Global;
 
 /// What stands before an outcome: the word of a call, and a controller's name.

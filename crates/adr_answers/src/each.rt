@@ -2,7 +2,7 @@
 
 ghost use Rattle.std.specs.Prelude.{◌≡◌, ◌++◌, ℕ, List, OnOk, flat_map};
 
-use adr_schema::NoMemory;
+use adr_values::NoMemory;
 
 /// What has a text.
 pub trait PushText {

@@ -7,9 +7,8 @@ ghost use Rattle.adr_answers.specs.Line.{listed, values_text, links_text, entry_
 use crate::each::{PushText, push_each};
 use crate::knowledge::push_identifier_behind;
 use adr_call::{Entry, Guids};
-use adr_guid::Guid;
-use adr_schema::{NoMemory, Values};
 use adr_token::{push, push_attribute, push_class, push_identifier, push_set, push_text};
+use adr_values::{Guid, NoMemory, Values};
 
 fn push_attribute_sign(out: &mut Vec<u8>, attr: u16) -> Result<(), NoMemory>
     ensures { OnOk result (out.new.items ≡ out.old.items ++ (codes " " ++ attribute_token attr ++ codes "=")) }

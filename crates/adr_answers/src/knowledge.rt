@@ -7,10 +7,8 @@ ghost use Rattle.adr_token.specs.Spelling.{identifier_token};
 ghost use Rattle.adr_answers.specs.Line.{mark_text, cursor_line, partner_line};
 
 use crate::each::PushText;
-use adr_guid::Guid;
-use adr_schema::NoMemory;
 use adr_token::{push, push_identifier, push_number};
-use adr_vector::Mark;
+use adr_values::{Guid, Mark, NoMemory};
 
 /// Adds a number behind some text.
 pub fn push_number_behind(out: &mut Vec<u8>, text: &[u8], number: u64) -> Result<(), NoMemory>

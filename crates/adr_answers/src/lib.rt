@@ -14,7 +14,7 @@ mod meta;
 mod telling;
 
 pub use adr_event::Answer;
-pub use adr_schema::NoMemory;
+pub use adr_values::NoMemory;
 pub use answers::{Heading, name_of};
 pub use knowledge::push_number_behind;
 pub use laws::{

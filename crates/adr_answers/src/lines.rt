@@ -11,9 +11,8 @@ use crate::each::push_each;
 use crate::knowledge::{push_mark, push_number_behind};
 use adr_call::{Field, Outcome, Plainly};
 use adr_event::Answer;
-use adr_schema::NoMemory;
 use adr_token::{push, push_attribute, push_identifier, push_number};
-use adr_vector::Mark;
+use adr_values::{Mark, NoMemory};
 use std::alloc::Global;
 
 #[tactic(auto, unfolding(crate::specs::Line::plain_text))]

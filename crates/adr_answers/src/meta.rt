@@ -8,9 +8,8 @@ ghost use Rattle.adr_answers.specs.Line.{life_text, meta_line};
 use crate::each::PushText;
 use crate::knowledge::{push_identifier_behind, push_number_behind};
 use adr_call::{Birth, Life, MetaLine, Stamp, Text};
-use adr_guid::Guid;
-use adr_schema::NoMemory;
 use adr_token::{push, push_attribute, push_text};
+use adr_values::{Guid, NoMemory};
 
 fn life_text(life: Life) -> &'static [u8]
     ensures { result.now ≡ life_text life }

@@ -2,8 +2,7 @@
 
 ghost use Rattle.std.specs.Prelude.{◌≡◌};
 
-use adr_guid::Guid;
-use adr_schema::{Text, Values};
+use adr_values::{Guid, Text, Values};
 use std::marker::Model;
 
 /// GUIDs of objects. In an entry they rise.
@@ -47,7 +46,7 @@ impl Drop for EntryValues {
 
 impl Model for EntryValues {
     ghost use Rattle.std.specs.Prelude.{List, ℕ};
-    ghost use Rattle.adr_schema.specs.declared.content.Value.{Value as Item};
+    ghost use Rattle.adr_values.specs.declared.content.Value.{Value as Item};
 
     ghost Value = { List (ℕ × List Item) };
 

@@ -1,6 +1,6 @@
 //! The words of one controller: what a client writes and asks, why a call is refused, what is shown, and how a call went.
-//! Plain values, shared by the definitions, the calls and the answers. It stands on the small types of `adr_guid`,
-//! `adr_stamp`, `adr_schema` and `adr_vector`, and knows nothing of text, of schedules, or of what a call does.
+//! Plain values, shared by the definitions, the calls and the answers. It stands on the words of `adr_values`, and knows
+//! nothing of text, of schedules, or of what a call does.
 #![tactic(auto)]
 
 mod directory;
@@ -11,10 +11,9 @@ mod refusal;
 mod report;
 mod write;
 
-pub use adr_failure::Failure;
-pub use adr_schema::{Assignments, SchemaRefusal, Text, Values};
-pub use adr_stamp::{Birth, Oid, Stamp};
-pub use adr_vector::{Mark, Times, Vector};
+pub use adr_values::{
+    Assignments, Birth, Failure, Mark, Oid, SchemaRefusal, Stamp, Text, Times, Values, Vector,
+};
 pub use directory::{Directory, Entry, EntryLinks, EntryValues, Guids};
 pub use meta::{Life, MetaLine, MetaLines};
 pub use outcome::{Field, Fields, Label, Outcome, Plainly};

@@ -2,8 +2,7 @@
 
 ghost use Rattle.std.specs.Prelude.{◌≡◌};
 
-use adr_schema::Text;
-use adr_stamp::{Birth, Stamp};
+use adr_values::{Birth, Stamp, Text};
 use std::marker::Model;
 
 /// How an object is held.

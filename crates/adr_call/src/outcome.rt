@@ -5,8 +5,7 @@ ghost use Rattle.std.specs.Prelude.{◌≡◌, ◌∷◌, []};
 use crate::directory::Directory;
 use crate::meta::MetaLines;
 use crate::partners::PartnerMarks;
-use adr_guid::Guid;
-use adr_vector::{Mark, Times, Vector};
+use adr_values::{Guid, Mark, Times, Vector};
 use std::marker::Model;
 
 /// A word of the program's own, as the name of a refusal or of a field. It takes no memory.

@@ -2,8 +2,7 @@
 
 ghost use Rattle.std.specs.Prelude.{◌≡◌};
 
-use adr_guid::Guid;
-use adr_vector::Mark;
+use adr_values::{Guid, Mark};
 use std::marker::Model;
 
 /// For each partner, by its controller's identifier, the invocation identifier of its database that was read, and how
@@ -15,7 +14,7 @@ pub struct PartnerMarks {
 
 impl Model for PartnerMarks {
     ghost use Rattle.std.specs.Prelude.{List, ℕ};
-    ghost use Rattle.adr_vector.specs.declared.mark.Mark.{Mark};
+    ghost use Rattle.adr_values.specs.declared.mark.Mark.{Mark};
 
     ghost Value = { List (List ℕ × List ℕ × Mark) };
 

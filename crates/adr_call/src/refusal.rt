@@ -2,13 +2,9 @@
 //! form, and attributes by their numbers.
 
 ghost use Rattle.std.specs.Prelude.{◌≡◌};
-ghost use Rattle.adr_failure.specs.declared.Failure.TheVariants.{Refused as refused};
+ghost use Rattle.adr_values.specs.declared.failure.Failure.TheVariants.{Refused as refused};
 
-use adr_failure::Failure;
-use adr_guid::Guid;
-use adr_schema::SchemaRefusal;
-use adr_stamp::Oid;
-use adr_vector::Mark;
+use adr_values::{Failure, Guid, Mark, Oid, SchemaRefusal};
 use std::fmt;
 use thiserror::Error;
 

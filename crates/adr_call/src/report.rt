@@ -1,6 +1,6 @@
 //! What a client asks for.
 
-use adr_guid::Guid;
+use adr_values::Guid;
 
 /// What a client asks a controller for, which changes nothing.
 #[derive(Clone, Copy)]

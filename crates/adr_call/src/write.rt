@@ -1,7 +1,6 @@
 //! What a client writes.
 
-use adr_guid::Guid;
-use adr_schema::{Assignments, Text};
+use adr_values::{Assignments, Guid, Text};
 
 /// What a client has a controller write. A `class` and an `attr` are numbers of the schema's table.
 #[derive(Drop)]

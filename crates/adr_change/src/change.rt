@@ -1,7 +1,7 @@
 //! What one commit changes.
 
 ghost use Rattle.std.specs.Prelude.{◌≡◌, [], IfOk};
-ghost use Rattle.adr_schema.specs.Numbered.{numbered};
+ghost use Rattle.adr_values.specs.Numbered.{numbered};
 ghost use Rattle.adr_model.specs.Change.{held_of};
 ghost use Rattle.adr_model.specs.Serve.{is_quarantined};
 ghost use Rattle.adr_change.specs.Mode.{mode_of};
@@ -9,10 +9,8 @@ ghost use Rattle.adr_change.specs.Mode.{mode_of};
 use crate::NoMemory;
 use crate::partner_mark::PartnerMark;
 use adr_checks::Schema;
-use adr_guid::Guid;
-use adr_stamp::Oid;
 use adr_update::{Held, Written};
-use adr_vector::Vector;
+use adr_values::{Guid, Oid, Vector};
 use std::alloc::Global;
 use std::marker::Model;
 use std::mem::replace;
@@ -71,7 +69,7 @@ impl Model for Change {
     ghost Value = { Defined };
 
     ghost use Rattle.std.specs.Prelude.{◌≡◌, []};
-    ghost use Rattle.adr_schema.specs.Numbered.{numbered};
+    ghost use Rattle.adr_values.specs.Numbered.{numbered};
     ghost use Rattle.adr_change.specs.Mode.{mode_of};
 
     ghost view = { λ c. record { usn = c.usn; mode = mode_of c.mode; schema = c.schema.number; mark = c.mark; joined = c.joined; times = []; purged = c.purged; removed = c.removed.items; writes = c.writes.items } };

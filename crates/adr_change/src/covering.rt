@@ -3,9 +3,8 @@
 ghost use Rattle.std.specs.Prelude.{◌≡◌};
 ghost use Rattle.adr_model.specs.Visible.{covers_birth, covers_update};
 
-use adr_stamp::Oid;
 use adr_update::Update;
-use adr_vector::Vector;
+use adr_values::{Oid, Vector};
 
 /// Whether the vector has seen the write that made the update.
 pub fn covers_update(vector: &Vector, update: &Update) -> bool

@@ -3,9 +3,8 @@
 ghost use Rattle.std.specs.Prelude.{◌≡◌};
 ghost use Rattle.adr_model.specs.Store.{mark_of, no_mark};
 
-use adr_guid::Guid;
 use adr_update::is_same;
-use adr_vector::Mark;
+use adr_values::{Guid, Mark};
 use std::marker::Model;
 
 /// How far an incarnation of a partner's database was read (MS-DRSR, USN_VECTOR).

@@ -1,9 +1,9 @@
 -- What is refused of one attribute that is given values.
 use Rattle.std.specs.Prelude.{ℕ, Option, Some}
-use Rattle.adr_schema.specs.declared.refusal.SchemaRefusal.{SchemaRefusal}
-use Rattle.adr_schema.specs.Assignments.{Given}
-use Rattle.adr_schema.specs.Rules.{added_refusal, values_refusal}
-use Rattle.adr_schema.specs.Table.{Table}
+use Rattle.adr_values.specs.declared.refusal.SchemaRefusal.{SchemaRefusal}
+use Rattle.adr_values.specs.Assignments.{Given}
+use Rattle.adr_values.specs.Rules.{added_refusal, values_refusal}
+use Rattle.adr_values.specs.Table.{Table}
 use Rattle.adr_checks.specs.declared.schema.Target.{Target}
 use Rattle.adr_checks.specs.declared.schema.Target.TheVariants.{New, Held}
 

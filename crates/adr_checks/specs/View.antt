@@ -3,7 +3,7 @@ use Rattle.std.specs.Prelude.{map}
 use Rattle.adr_checks.specs.declared.table.ClassEntry.{ClassEntry}
 use Rattle.adr_checks.specs.declared.table.AttributeEntry.{AttributeEntry}
 use Rattle.adr_checks.specs.declared.table.TableData.{TableData}
-use Rattle.adr_schema.specs.Table.{Class, Attribute, Table}
+use Rattle.adr_values.specs.Table.{Class, Attribute, Table}
 
 abbrev pub class_of : ClassEntry → Class
 class_of c = record {

@@ -1,7 +1,7 @@
 //! The schemas as code: their tables, the checks of what a class or a row may contain and where an object may stand,
 //! and the names of objects, classes and attributes.
 //!
-//! Each check answers what the definitions of `adr_schema` refuse. Knows nothing of stamps, of rows that are held, or
+//! Each check answers what the definitions of `adr_values` refuse. Knows nothing of stamps, of rows that are held, or
 //! of other controllers.
 #![tactic(auto)]
 

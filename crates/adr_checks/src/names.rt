@@ -3,14 +3,14 @@
 ghost use Rattle.std.specs.Prelude.{◌≡◌, ◌<◌, ◌≤◌, length};
 ghost use Rattle.std.specs.Option.{option_copied};
 ghost use Rattle.std.specs.Result.{result_err};
-ghost use Rattle.adr_schema.specs.Names.{attribute_name, attribute_number, class_name, class_number, is_wrong_byte, name_fault};
-ghost use Rattle.adr_schema.specs.Places.{first_place};
-ghost use Rattle.adr_schema.specs.Rules.{name_refusal};
-ghost use Rattle.adr_schema.specs.Schemas.{spoken};
-ghost use Rattle.adr_schema.specs.Table.{kind_at};
+ghost use Rattle.adr_values.specs.Names.{attribute_name, attribute_number, class_name, class_number, is_wrong_byte, name_fault};
+ghost use Rattle.adr_values.specs.Places.{first_place};
+ghost use Rattle.adr_values.specs.Rules.{name_refusal};
+ghost use Rattle.adr_values.specs.Schemas.{spoken};
+ghost use Rattle.adr_values.specs.Table.{kind_at};
 
 use crate::table::spoken_table;
-use adr_schema::{Kind, SchemaRefusal};
+use adr_values::{Kind, SchemaRefusal};
 
 /// The name of a class, in the schema that texts know.
 pub fn class_name(number: u16) -> Option<&'static str>
@@ -52,7 +52,7 @@ pub fn attribute_kind(number: u16) -> Option<Kind>
 }
 
 /// Tests that an object may have a name. The rule is this project's own.
-#[tactic(auto, unfolding(adr_schema::specs::Names::name_fault))]
+#[tactic(auto, unfolding(adr_values::specs::Names::name_fault))]
 pub fn check_name(text: &str) -> Result<(), SchemaRefusal>
     ensures { result_err result ≡ name_refusal text.now }
 {

@@ -4,17 +4,17 @@ ghost use Rattle.std.specs.Prelude.{◌≡◌, is_none, map};
 ghost use Rattle.std.specs.List.{find};
 ghost use Rattle.std.specs.Option.{option_copied};
 ghost use Rattle.std.specs.Result.{result_err};
-ghost use Rattle.adr_schema.specs.Assignments.{given};
-ghost use Rattle.adr_schema.specs.Rules.{add_refusal, class_refusal, first_refusal, is_emptied, link_refusal, modify_refusal, not_link_refusal, row_refusal, values_refusal};
-ghost use Rattle.adr_schema.specs.Table.{is_must, is_of, is_superior, kind_at, may_of, must_of, superiors_of};
-ghost use Rattle.adr_schema.specs.Numbered.{numbered};
-ghost use Rattle.adr_schema.specs.Schemas.{schema_table};
+ghost use Rattle.adr_values.specs.Assignments.{given};
+ghost use Rattle.adr_values.specs.Rules.{add_refusal, class_refusal, first_refusal, is_emptied, link_refusal, modify_refusal, not_link_refusal, row_refusal, values_refusal};
+ghost use Rattle.adr_values.specs.Table.{is_must, is_of, is_superior, kind_at, may_of, must_of, superiors_of};
+ghost use Rattle.adr_values.specs.Numbered.{numbered};
+ghost use Rattle.adr_values.specs.Schemas.{schema_table};
 ghost use Rattle.adr_checks.specs.Given.{given_refusal};
 ghost use Rattle.adr_checks.specs.View.{table_of};
 
 use crate::table::{TableData, table_numbered};
 use crate::values::bad_place;
-use adr_schema::{Assignments, Kind, SchemaRefusal, Value};
+use adr_values::{Assignments, Kind, SchemaRefusal, Value};
 use std::marker::Model;
 
 /// The class that the root counts as, where it is asked what may stand under it.
@@ -41,10 +41,10 @@ pub struct Schema {
 
 impl Model for Schema {
     ghost use Rattle.std.specs.Prelude.{IsSome};
-    ghost use Rattle.adr_schema.specs.Table.{Table};
-    ghost use Rattle.adr_schema.specs.Numbered.{numbered};
-    ghost use Rattle.adr_schema.proofs.Numbers.{number-numbered};
-    ghost use Rattle.adr_schema.specs.Schemas.{schema_table};
+    ghost use Rattle.adr_values.specs.Table.{Table};
+    ghost use Rattle.adr_values.specs.Numbered.{numbered};
+    ghost use Rattle.adr_values.proofs.Numbers.{number-numbered};
+    ghost use Rattle.adr_values.specs.Schemas.{schema_table};
 
     ghost Value = { Table };
 
@@ -178,7 +178,7 @@ impl Schema {
 
     /// Tests the values of one attribute of an object that is held, or that came from elsewhere. Where
     /// the object's class is not known, what only the class forbids is not tested.
-    #[tactic(auto, unfolding(adr_schema::specs::Rules::row_refusal))]
+    #[tactic(auto, unfolding(adr_values::specs::Rules::row_refusal))]
     pub fn check_values(
         &self,
         class: Option<u16>,
@@ -195,7 +195,7 @@ impl Schema {
     }
 
     /// Tests the class and the values of an object that is added.
-    #[tactic(auto, unfolding(adr_schema::specs::Rules::add_refusal))]
+    #[tactic(auto, unfolding(adr_values::specs::Rules::add_refusal))]
     pub fn check_add(&self, class: u16, values: &Assignments) -> Result<(), SchemaRefusal>
         ensures { result_err result ≡ add_refusal self.now class values.now }
     {
@@ -254,7 +254,7 @@ impl Schema {
 
     /// Tests the values that take the place of those that an object of a class has; an empty list
     /// leaves an attribute without values.
-    #[tactic(auto, unfolding(adr_schema::specs::Rules::modify_refusal))]
+    #[tactic(auto, unfolding(adr_values::specs::Rules::modify_refusal))]
     pub fn check_modify(&self, class: u16, values: &Assignments) -> Result<(), SchemaRefusal>
         ensures { result_err result ≡ modify_refusal self.now class values.now }
     {
@@ -288,7 +288,7 @@ impl Schema {
     }
 
     /// Tests that an object of a class may have links under an attribute.
-    #[tactic(auto, unfolding(adr_schema::specs::Rules::link_refusal))]
+    #[tactic(auto, unfolding(adr_values::specs::Rules::link_refusal))]
     pub fn check_link(&self, class: u16, attr: u16) -> Result<(), SchemaRefusal>
         ensures { result_err result ≡ link_refusal self.now class attr }
     {

@@ -3,12 +3,12 @@
 
 ghost use Rattle.std.specs.Prelude.{◌≡◌};
 ghost use Rattle.std.specs.Option.{option_copied, option_map};
-ghost use Rattle.adr_schema.specs.Table.{attribute_at, attribute_named, class_at, class_named, kind_at};
-ghost use Rattle.adr_schema.specs.Schemas.{schema_1, schema_2, schema_table, spoken};
+ghost use Rattle.adr_values.specs.Table.{attribute_at, attribute_named, class_at, class_named, kind_at};
+ghost use Rattle.adr_values.specs.Schemas.{schema_1, schema_2, schema_table, spoken};
 ghost use Rattle.adr_checks.specs.View.{attribute_of, class_of, table_of};
 
-use adr_schema::Kind::{self, Back, Forward, Plain, Reserved};
-use adr_schema::Syntax::{Flag, Number, Octets, Ref, Text};
+use adr_values::Kind::{self, Back, Forward, Plain, Reserved};
+use adr_values::Syntax::{Flag, Number, Octets, Ref, Text};
 
 pub struct ClassEntry {
     pub number: u16,

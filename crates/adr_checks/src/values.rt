@@ -2,12 +2,12 @@
 
 ghost use Rattle.std.specs.Prelude.{◌≡◌, ◌↔◌, ◌<◌, IsTrue, length, take};
 ghost use Rattle.std.specs.List.{list_any, slice_get};
-ghost use Rattle.adr_schema.specs.Values.{bad_place, fits, is_misplaced, is_within, same_value};
+ghost use Rattle.adr_values.specs.Values.{bad_place, fits, is_misplaced, is_within, same_value};
 
-use adr_schema::{Syntax, Value};
+use adr_values::{Syntax, Value};
 
 /// The first place of a value that is out of range, repeats an earlier one or is one too many.
-#[tactic(auto, unfolding(adr_schema::specs::Values::bad_place))]
+#[tactic(auto, unfolding(adr_values::specs::Values::bad_place))]
 pub fn bad_place(syntax: Syntax, most: u32, values: &[Value]) -> Option<u32>
     ensures { result ≡ bad_place syntax most values.now }
 {

@@ -2,10 +2,10 @@
 use Rattle.std.proofs.Common.{◌≡◌, ◌≤◌, ℕ, refl, Bool, true, false, cond, max, ap, length, arith}
 use Rattle.std.specs.Ordering.{is_eq}
 use Rattle.std.proofs.lemmas.Bool.{leb-true}
-use Rattle.adr_stamp.specs.Order.{identifier_order}
-use Rattle.adr_vector.specs.Vector.{Cursors, IsVector, at, covers, cursor_limit, raised}
-use Rattle.adr_vector.proofs.Cursors.{same_from_test}
-use Rattle.adr_vector.proofs.Joining.{at-raised, from_one-raised, rising-raised}
+use Rattle.adr_values.specs.Order.{identifier_order}
+use Rattle.adr_values.specs.Vector.{Cursors, IsVector, at, covers, cursor_limit, raised}
+use Rattle.adr_values.proofs.Cursors.{same_from_test}
+use Rattle.adr_values.proofs.Joining.{at-raised, from_one-raised, rising-raised}
 use Rattle.adr_model.specs.Reflects.{AtMost}
 use Rattle.adr_model.specs.Update.{Identifier}
 use Rattle.adr_law_knowledge.proofs.Fewer.{no_more_cursors}

@@ -1,7 +1,7 @@
 -- What covers one collected object more.
 use Rattle.std.specs.Prelude.{Option, None, Some}
-use Rattle.adr_stamp.specs.declared.Oid.{Oid}
-use Rattle.adr_vector.specs.Vector.{Cursors, raised}
+use Rattle.adr_values.specs.declared.stamp.Oid.{Oid}
+use Rattle.adr_values.specs.Vector.{Cursors, raised}
 use Rattle.adr_model.specs.Update.{Update, inv_of, usn_of}
 
 -- a vector that is brought up to the birth of an object and to its death, if there is one

@@ -2,7 +2,7 @@
 
 ghost use Rattle.std.specs.Prelude.{◌≡◌, ◌+◌, ◌++◌, [], IfOk, IfSome, OnOk, map, nat_le, true};
 ghost use Rattle.std.specs.List.{cons_option};
-ghost use Rattle.adr_vector.specs.Vector.{at, covers, raised};
+ghost use Rattle.adr_values.specs.Vector.{at, covers, raised};
 ghost use Rattle.adr_model.specs.Reflects.{AtMost};
 ghost use Rattle.adr_model.specs.Update.{inv_of, usn_of};
 ghost use Rattle.adr_model.specs.Visible.{covers_birth, covers_update};
@@ -11,8 +11,8 @@ ghost use Rattle.adr_collect.specs.Covering.{covering_with};
 
 use crate::NoMemory;
 use adr_call::Failure;
-use adr_guid::Guid;
 use adr_state::{Oid, State, Update, Vector, covers_birth, covers_update};
+use adr_values::Guid;
 use std::alloc::{AllocError, Global};
 
 /// The objects that go, and the least vector that covers their births and deaths.

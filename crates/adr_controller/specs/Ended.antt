@@ -1,7 +1,7 @@
 -- How a call of a controller ended.
 use Rattle.std.specs.Prelude.{Option, Some, None, Result, Ok, Err}
-use Rattle.adr_failure.specs.declared.Failure.{Failure}
-use Rattle.adr_failure.specs.declared.Failure.TheVariants as failures
+use Rattle.adr_values.specs.declared.failure.Failure.{Failure}
+use Rattle.adr_values.specs.declared.failure.Failure.TheVariants as failures
 use Rattle.adr_journal.specs.declared.keeper.KeeperRefusal.{KeeperRefusal}
 use Rattle.adr_journal.specs.declared.keeper.KeeperRefusal.TheVariants as keeps
 use Rattle.adr_controller.specs.Running.{Running}

@@ -16,9 +16,9 @@ ghost use Rattle.adr_controller.specs.Did.{Calls, Commits, IsMade, KeepsAll};
 
 use crate::keeping::keep;
 use crate::refusal::{CallRefusal, Hindrance};
-use adr_failure::NoMemory;
 use adr_journal::{Keeper, KeeperRefusal, StartRefusal};
 use adr_state::{Change, State};
+use adr_values::NoMemory;
 use std::marker::Model;
 
 /// A keeper with the state that it stands for; none while the controller is stopped, or its keeper failed.

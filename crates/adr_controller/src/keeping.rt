@@ -9,9 +9,9 @@ ghost use Rattle.adr_controller.specs.Ended.{hindrance_of};
 ghost use Rattle.adr_controller.specs.Did.{KeepsChange, up_behind};
 
 use crate::refusal::Hindrance;
-use adr_failure::{Failure, NoMemory};
 use adr_journal::Keeper;
 use adr_state::{Change, State};
+use adr_values::{Failure, NoMemory};
 use std::alloc::AllocError;
 
 /// Makes a change of a state that it fits into.

@@ -19,10 +19,9 @@ use crate::controller::Controller;
 use crate::refusal::{CallRefusal, Hindrance};
 use adr_call::{Failure, ServeRefusal, TakeRefusal};
 use adr_cycle::{Reply, Request, ask, count, serve, take};
-use adr_failure::NoMemory;
-use adr_guid::Guid;
 use adr_journal::Keeper;
 use adr_state::{Change, Mode, State, Vector};
+use adr_values::{Guid, NoMemory};
 use std::alloc::Global;
 
 /// What comes of a reply that was taken: how many items it had, how many of them were written, and the USN then.

@@ -5,9 +5,9 @@ ghost use Rattle.adr_controller.specs.declared.refusal.CallRefusal.TheVariants.{
 ghost use Rattle.adr_controller.specs.declared.refusal.Hindrance.TheVariants.{NoMemory as no_memory};
 ghost use Rattle.adr_controller.specs.Ended.{kept_as, of_failure};
 
-use adr_failure::Failure;
 use adr_journal::KeeperRefusal;
 use adr_state::LOG_LIMIT;
+use adr_values::Failure;
 use std::alloc::AllocError;
 use std::fmt::Display;
 use thiserror::Error;

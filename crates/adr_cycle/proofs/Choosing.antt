@@ -9,11 +9,11 @@ use Rattle.std.specs.BTreeMap.{insert_entry, is_at}
 use Rattle.std.proofs.lemmas.Bool.{ltb-true, lt-ltb, eqb-true, eq-eqb, and_parts}
 use Rattle.std.proofs.lemmas.Cmp.{tied_itself}
 use Rattle.std.proofs.lemmas.Map.Views.{tells_apart}
-use Rattle.adr_stamp.specs.declared.Unit.{Unit as Named}
-use Rattle.adr_stamp.specs.Order.{unit_order}
-use Rattle.adr_stamp.proofs.Units.{units_total, exact_units}
-use Rattle.adr_vector.specs.Vector.{Cursors}
-use Rattle.adr_vector.specs.declared.mark.Mark.{Mark}
+use Rattle.adr_values.specs.declared.stamp.Unit.{Unit as Named}
+use Rattle.adr_values.specs.Order.{unit_order}
+use Rattle.adr_values.proofs.Units.{units_total, exact_units}
+use Rattle.adr_values.specs.Vector.{Cursors}
+use Rattle.adr_values.specs.declared.mark.Mark.{Mark}
 use Rattle.adr_model.specs.Member.{Member, Each}
 use Rattle.adr_model.specs.Update.{same_unit, unit_of}
 use Rattle.adr_model.specs.Store.{Held, updates_of}

@@ -1,7 +1,7 @@
 -- The first of several refusals, taken two at a time.
 use Rattle.std.proofs.Common.{◌≡◌, [], ◌∷◌, Option, ◌∙◌}
 use Rattle.std.specs.Option.{option_or}
-use Rattle.adr_failure.specs.First.{first_of}
+use Rattle.adr_values.specs.First.{first_of}
 use Rattle.adr_model.proofs.Firsts.{first_of_one, first_of_more}
 
 module _ {A : Type 0} where

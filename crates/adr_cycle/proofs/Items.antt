@@ -1,8 +1,8 @@
 -- What an item makes of what was taken before it.
 use Rattle.std.proofs.Common.{◌≡◌, ℕ, ◌+◌, List, [], ◌++◌, Option, max, length, ap, ◌∙◌}
 use Rattle.std.specs.Option.{option_or}
-use Rattle.adr_schema.specs.Table.{Table as Schema}
-use Rattle.adr_vector.specs.Vector.{Cursors}
+use Rattle.adr_values.specs.Table.{Table as Schema}
+use Rattle.adr_values.specs.Vector.{Cursors}
 use Rattle.adr_call.specs.declared.refusal.TakeRefusal.{TakeRefusal}
 use Rattle.adr_model.specs.Update.{Update}
 use Rattle.adr_model.specs.Live.{objects_of}

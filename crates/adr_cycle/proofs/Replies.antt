@@ -1,8 +1,8 @@
 -- A reply from what its parts are read from.
 use Rattle.std.proofs.Common.{◌≡◌, ◌∙◌, ℕ, ◌≤◌, List, [], Bool, true, false, cond, ◌&&◌, ◌==◌, Option, is_none, is_some, map, refl, sym, ap, subst, length, None, Some}
 use Rattle.std.specs.Bool.{then_some}
-use Rattle.adr_vector.specs.Vector.{Cursors}
-use Rattle.adr_vector.specs.declared.mark.Mark.{Mark}
+use Rattle.adr_values.specs.Vector.{Cursors}
+use Rattle.adr_values.specs.declared.mark.Mark.{Mark}
 use Rattle.adr_model.specs.Change.{Item}
 use Rattle.adr_model.specs.Update.{Identifier}
 use Rattle.adr_model.specs.Store.{Held, State}

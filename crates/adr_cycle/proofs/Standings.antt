@@ -1,12 +1,12 @@
 -- What stands of a unit, and what that makes of its item.
 use Rattle.std.proofs.Common.{◌≡◌, List, [], ◌∷◌, cond, filter, map, refl, ap, ◌∙◌, Option, None, true, false}
 use Rattle.std.specs.Option.{option_or}
-use Rattle.adr_stamp.specs.declared.Unit.{Unit as Named}
-use Rattle.adr_stamp.specs.declared.Unit.TheVariants.{Object, Link}
-use Rattle.adr_schema.specs.Table.{Table as Schema}
-use Rattle.adr_failure.specs.First.{first_of}
+use Rattle.adr_values.specs.declared.stamp.Unit.{Unit as Named}
+use Rattle.adr_values.specs.declared.stamp.Unit.TheVariants.{Object, Link}
+use Rattle.adr_values.specs.Table.{Table as Schema}
+use Rattle.adr_values.specs.First.{first_of}
 use Rattle.adr_call.specs.declared.refusal.ItemFault.{ItemFault}
-use Rattle.adr_vector.specs.Vector.{Cursors}
+use Rattle.adr_values.specs.Vector.{Cursors}
 use Rattle.adr_model.specs.Update.{Update}
 use Rattle.adr_model.specs.Store.{Held as Row}
 use Rattle.adr_model.specs.Change.{Item}

@@ -4,8 +4,8 @@ ghost use Rattle.std.specs.Prelude.{◌≡◌, IfOk};
 ghost use Rattle.adr_model.specs.Serve.{ask};
 
 use crate::{NoMemory, Request};
-use adr_guid::Guid;
 use adr_state::State;
+use adr_values::Guid;
 use std::alloc::Global;
 
 /// What the controller asks a partner: the changes behind the mark that it has of the partner, at most `max` items in

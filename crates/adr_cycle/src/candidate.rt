@@ -5,8 +5,8 @@ ghost use Rattle.adr_model.specs.Store.{updates_of};
 ghost use Rattle.adr_update.specs.Referents.{referents};
 
 use crate::NoMemory;
-use adr_stamp::Unit;
 use adr_state::{Held, Item, Update};
+use adr_values::Unit;
 use std::alloc::Global;
 use std::marker::Model;
 

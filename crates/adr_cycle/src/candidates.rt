@@ -7,9 +7,8 @@ ghost use Rattle.adr_cycle.specs.Candidates.{candidate_at, next_candidate, some_
 
 use crate::NoMemory;
 use crate::candidate::Candidate;
-use adr_stamp::Unit;
 use adr_state::{Held, Rows, covers_update};
-use adr_vector::{Mark, Vector};
+use adr_values::{Mark, Unit, Vector};
 use std::alloc::Global;
 
 /// The first item that may be sent behind a number. Its own number is the last local update sequence number of its

@@ -21,7 +21,7 @@ mod taking;
 
 pub use adr_call::{Failure, ServeRefusal, TakeRefusal};
 pub use adr_state::{Change, Item, NoMemory, State};
-pub use adr_vector::{Mark, Vector};
+pub use adr_values::{Mark, Vector};
 pub use asking::ask;
 pub use counting::count;
 pub use reply::Reply;

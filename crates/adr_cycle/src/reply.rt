@@ -3,9 +3,8 @@
 ghost use Rattle.std.specs.Prelude.{◌≡◌, []};
 ghost use Rattle.std.specs.Option.{option_copied};
 
-use adr_guid::Guid;
 use adr_state::Item;
-use adr_vector::{Mark, Vector};
+use adr_values::{Guid, Mark, Vector};
 use std::marker::Model;
 
 /// A reply (MS-DRSR, DRS_MSG_GETCHGREPLY): to whom it goes, from whom and from which incarnation, the marks between

@@ -8,7 +8,7 @@ ghost use Rattle.adr_model.specs.Serve.{begins_at, byte_limit, candidates, first
 use crate::candidates::{is_none_behind, next_candidate};
 use crate::{NoMemory, Reply, Request};
 use adr_state::{Item, PartnerMark, Rows, State, item_length_within};
-use adr_vector::{Mark, Vector};
+use adr_values::{Mark, Vector};
 use std::alloc::Global;
 
 /// The bytes of items at which a reply is cut: 4 MiB.

@@ -2,8 +2,7 @@
 
 ghost use Rattle.std.specs.Prelude.{◌≡◌};
 
-use adr_guid::Guid;
-use adr_vector::{Mark, Vector};
+use adr_values::{Guid, Mark, Vector};
 use std::marker::Model;
 
 /// A request for changes (MS-DRSR, DRS_MSG_GETCHGREQ): who asks, which partner, the incarnation of the partner's

@@ -3,7 +3,7 @@
 ghost use Rattle.std.specs.Prelude.{◌≡◌, ◌↔◌, ℕ, ◌&&◌, ◌==◌, Ok, Err, IfOk, IsErrOf, nat_le, nat_lt, not};
 ghost use Rattle.std.specs.Bool.{then_some};
 ghost use Rattle.std.specs.Option.{option_map};
-ghost use Rattle.adr_vector.specs.Vector.{first_gap};
+ghost use Rattle.adr_values.specs.Vector.{first_gap};
 ghost use Rattle.adr_model.specs.Update.{same_identifier};
 ghost use Rattle.adr_model.specs.Serve.{is_quarantined, serve, serve_refusal, shown_by};
 ghost use Rattle.adr_call.specs.declared.refusal.ServeRefusal.{ServeRefusal};
@@ -12,7 +12,7 @@ use crate::replying::{begins_at, reply_to};
 use crate::{Reply, Request};
 use adr_call::{Failure, ServeRefusal};
 use adr_state::{State, is_same};
-use adr_vector::Mark;
+use adr_values::Mark;
 use std::alloc::Global;
 
 /// What a request is answered, at any moment: the reply, or the first refusal in order (MS-DRSR, GetNCChanges; the refusals, and how

@@ -1,8 +1,8 @@
 //! Why an item is refused.
 
 ghost use Rattle.std.specs.Prelude.{◌≡◌, List, IfOk, map};
-ghost use Rattle.adr_failure.specs.First.{first_of};
-ghost use Rattle.adr_vector.specs.Vector.{Cursors};
+ghost use Rattle.adr_values.specs.First.{first_of};
+ghost use Rattle.adr_values.specs.Vector.{Cursors};
 ghost use Rattle.adr_model.specs.Store.{Held};
 ghost use Rattle.adr_model.specs.Take.{incomplete, item_fault, item_refusal, object_lacks, object_rows_tested, row_fault};
 ghost use Rattle.adr_overlay.specs.Presence.{defined};
@@ -13,8 +13,8 @@ use crate::counting::count;
 use adr_call::{ItemFault, TakeRefusal};
 use adr_checks::Schema;
 use adr_overlay::{Presence, Standing, class_among, first_fault, has_row, lacks};
-use adr_stamp::Unit;
 use adr_state::{DELETED, Item, Update};
+use adr_values::Unit;
 
 /// What is wrong with the first wrong one of the rows of an object's item that are looked at.
 fn object_fault(

@@ -15,7 +15,7 @@ use adr_state::{
     CURSOR_LIMIT, Change, LINK_LIMIT, MARK_LIMIT, Mode, OBJECT_LIMIT, PartnerMark, State,
     USN_LIMIT, is_same,
 };
-use adr_vector::{Mark, Vector};
+use adr_values::{Mark, Vector};
 use std::alloc::Global;
 
 /// What a reply does to a controller: the change that it makes, or why it is refused (MS-DRSR, processing a

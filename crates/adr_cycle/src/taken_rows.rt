@@ -1,7 +1,7 @@
 //! Which rows of an item are written.
 
 ghost use Rattle.std.specs.Prelude.{◌≡◌, ◌++◌, ◌∷◌, [], IfOk, OnOk, filter, if◌then◌else◌};
-ghost use Rattle.adr_vector.specs.Vector.{Cursors};
+ghost use Rattle.adr_values.specs.Vector.{Cursors};
 ghost use Rattle.adr_model.specs.Take.{is_reserved_row, left_by_death, rows_taken};
 ghost use Rattle.adr_overlay.specs.Standing.{IsStanding};
 ghost use Rattle.adr_cycle.specs.RowsTaken.{can_die, is_taken};

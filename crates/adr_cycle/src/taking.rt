@@ -12,9 +12,8 @@ use crate::taken_rows::rows_taken;
 use adr_call::TakeRefusal;
 use adr_checks::Schema;
 use adr_overlay::{Overlay, new_object, standing_of};
-use adr_stamp::Oid;
 use adr_state::{Item, State, Update, Written};
-use adr_vector::Vector;
+use adr_values::{Oid, Vector};
 use std::alloc::Global;
 use std::marker::Model;
 

@@ -6,10 +6,10 @@ ghost use Rattle.adr_schedule.specs.Limits.{text_limit};
 ghost use Rattle.adr_session.specs.Lines.{deed_said};
 ghost use Rattle.adr_dial.specs.Texts.{cause_in, fault_in, first_bad};
 
-use adr_failure::NoMemory;
 use adr_schedule::{Cause, ScheduleFault, TEXT_LIMIT, first_line, is_passed};
 use adr_session::{LINE_LIMIT, deed_said};
 use adr_token::utf8;
+use adr_values::NoMemory;
 use std::alloc::Global;
 
 /// Whether a line says a write or a collection.

@@ -3,7 +3,7 @@
 use crate::names::Names;
 use adr_call::{Report, Text, Write};
 use adr_disk::Crash;
-use adr_guid::Guid;
+use adr_values::Guid;
 
 /// What happens. `name` names the controller that it happens to.
 #[derive(Drop)]

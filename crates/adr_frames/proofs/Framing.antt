@@ -8,8 +8,8 @@ use Rattle.adr_outside.specs.Traffic.{Traffic}
 use Rattle.adr_wire.specs.Fields.{u32_at}
 use Rattle.adr_wire.specs.Reading.{Rest, Read, ◌>>=◌, Names, bytes_at}
 use Rattle.adr_wire.specs.declared.refusal.Malformed.{Malformed}
-use Rattle.adr_failure.specs.declared.Failure.{Failure}
-use Rattle.adr_failure.specs.declared.Failure.TheVariants.{Refused, NoMemory}
+use Rattle.adr_values.specs.declared.failure.Failure.{Failure}
+use Rattle.adr_values.specs.declared.failure.Failure.TheVariants.{Refused, NoMemory}
 use Rattle.adr_wire.proofs.Combining.{bind_ok, passed_ok}
 use Rattle.adr_frames.specs.Frames.{frame_limit, is_frame_length, IsFrameLength, length_at, frame_at, from, Next, IsOver, IsBroken, IsFrame, next_of, next_in}
 use Rattle.adr_frames.specs.declared.hearing.Heard.{Heard}

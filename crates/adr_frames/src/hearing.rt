@@ -8,9 +8,9 @@ ghost use Rattle.adr_frames.specs.Hearing.{Hears, HearsBody, IfFrame, IsPartRece
 
 use crate::receiving::receive_at_most;
 use crate::saying::FRAME_LIMIT;
-use adr_failure::Failure;
 use adr_io::Fault;
 use adr_outside::Net;
+use adr_values::Failure;
 use adr_wire::{Malformed, Reader, WireRefusal};
 use std::alloc::Global;
 

@@ -3,7 +3,7 @@
 ghost use Rattle.std.specs.Prelude.{◌≡◌, ◌∷◌, IfOk};
 ghost use Rattle.adr_frames.specs.Messages.{has_line_feed};
 
-use adr_failure::NoMemory;
+use adr_values::NoMemory;
 use std::alloc::Global;
 
 /// The kind of a frame, its first byte: a client asks for changes.

@@ -8,15 +8,15 @@ use Rattle.std.specs.declared.cmp.Ordering.TheVariants.{Less}
 use Rattle.std.specs.declared.cmp.Ordering.{Ordering}
 use Rattle.std.proofs.lemmas.List.Sums.{fold-append}
 use Rattle.std.proofs.lemmas.Cmp.{tied_itself}
-use Rattle.adr_stamp.specs.declared.Oid.{Oid}
-use Rattle.adr_stamp.specs.declared.LinkKey.{LinkKey}
-use Rattle.adr_stamp.specs.declared.Unit.{Unit as Named}
-use Rattle.adr_stamp.specs.declared.Unit.TheVariants.{Object, Link}
-use Rattle.adr_stamp.specs.Order.{object_order, link_order}
-use Rattle.adr_stamp.specs.contracts.OidOrd.TheImpl.Laws.{total-law as objects_total}
-use Rattle.adr_stamp.specs.contracts.LinkKeyOrd.TheImpl.Laws.{total-law as links_total}
-use Rattle.adr_schema.specs.Table.{Table, has, must_of}
-use Rattle.adr_schema.specs.Numbered.{numbered}
+use Rattle.adr_values.specs.declared.stamp.Oid.{Oid}
+use Rattle.adr_values.specs.declared.stamp.LinkKey.{LinkKey}
+use Rattle.adr_values.specs.declared.stamp.Unit.{Unit as Named}
+use Rattle.adr_values.specs.declared.stamp.Unit.TheVariants.{Object, Link}
+use Rattle.adr_values.specs.Order.{object_order, link_order}
+use Rattle.adr_values.specs.contracts.stamp.OidOrd.TheImpl.Laws.{total-law as objects_total}
+use Rattle.adr_values.specs.contracts.stamp.LinkKeyOrd.TheImpl.Laws.{total-law as links_total}
+use Rattle.adr_values.specs.Table.{Table, has, must_of}
+use Rattle.adr_values.specs.Numbered.{numbered}
 use Rattle.adr_model.specs.Member.{Member, Each}
 use Rattle.adr_model.specs.Update.{unit_of, same_unit, same_object}
 use Rattle.adr_model.specs.Store.{Held}

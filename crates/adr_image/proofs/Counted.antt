@@ -1,6 +1,6 @@
 -- The image of a store is as long as is counted of the store.
 use Rattle.std.proofs.Common.{◌≡◌, ℕ, ◌+◌, ◌*◌, List, [], ◌∷◌, ◌++◌, length, map, fold, ap, ◌∙◌, arith}
-use Rattle.adr_stamp.specs.declared.Oid.{Oid}
+use Rattle.adr_values.specs.declared.stamp.Oid.{Oid}
 use Rattle.adr_model.specs.Lengths.{row_length, image_length}
 use Rattle.adr_model.specs.Store.{Held, Store}
 use Rattle.adr_model.specs.Formed.{IsFormedStore}

@@ -7,19 +7,19 @@ use Rattle.std.specs.Ordering.{nat_cmp}
 use Rattle.std.specs.declared.cmp.Ordering.TheVariants.{Less}
 use Rattle.std.proofs.lemmas.Bool.{eqb-true, eqb-false, eq-eqb, le-leb, and_from}
 use Rattle.std.proofs.lemmas.Cmp.{nat_cmp_total}
-use Rattle.adr_stamp.specs.declared.Oid.{Oid}
-use Rattle.adr_stamp.specs.declared.Stamp.{Stamp}
-use Rattle.adr_stamp.specs.Order.{object_order}
-use Rattle.adr_stamp.specs.contracts.OidOrd.TheImpl.Laws.{total-law as objects_total}
-use Rattle.adr_schema.specs.declared.content.Value.{Value as Datum}
-use Rattle.adr_schema.specs.declared.content.Content.{Content}
-use Rattle.adr_schema.specs.declared.content.Content.TheVariants.{Class, Name, Dead, Values}
-use Rattle.adr_schema.specs.Table.{Table, class_at, must_of}
-use Rattle.adr_schema.specs.Allowed.{IsAllowed, MayBeHeld}
-use Rattle.adr_schema.specs.Names.{name_fault}
-use Rattle.adr_schema.specs.Numbered.{numbered}
-use Rattle.adr_schema.specs.Rules.{row_refusal}
-use Rattle.adr_schema.proofs.ExactRows.{not_refused_held}
+use Rattle.adr_values.specs.declared.stamp.Oid.{Oid}
+use Rattle.adr_values.specs.declared.stamp.Stamp.{Stamp}
+use Rattle.adr_values.specs.Order.{object_order}
+use Rattle.adr_values.specs.contracts.stamp.OidOrd.TheImpl.Laws.{total-law as objects_total}
+use Rattle.adr_values.specs.declared.content.Value.{Value as Datum}
+use Rattle.adr_values.specs.declared.content.Content.{Content}
+use Rattle.adr_values.specs.declared.content.Content.TheVariants.{Class, Name, Dead, Values}
+use Rattle.adr_values.specs.Table.{Table, class_at, must_of}
+use Rattle.adr_values.specs.Allowed.{IsAllowed, MayBeHeld}
+use Rattle.adr_values.specs.Names.{name_fault}
+use Rattle.adr_values.specs.Numbered.{numbered}
+use Rattle.adr_values.specs.Rules.{row_refusal}
+use Rattle.adr_values.proofs.ExactRows.{not_refused_held}
 use Rattle.adr_wire.specs.Reading.{is_above}
 use Rattle.adr_wire.specs.Ranges.{IsU16, IsOid, IsRow, IsContent, InTurn}
 use Rattle.adr_wire.specs.Gathering.{Along}

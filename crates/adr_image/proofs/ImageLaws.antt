@@ -4,12 +4,12 @@ use Rattle.std.specs.Prelude.{not, ◌&&◌}
 use Rattle.std.specs.List.{flat_map}
 use Rattle.std.specs.Ordering.{nat_cmp}
 use Rattle.std.proofs.lemmas.Bool.{leb-true, le-leb}
-use Rattle.adr_stamp.specs.declared.Oid.{Oid}
-use Rattle.adr_stamp.specs.declared.LinkKey.{LinkKey}
-use Rattle.adr_stamp.specs.declared.LinkStamp.{LinkStamp}
-use Rattle.adr_vector.specs.declared.mark.Mark.{Mark}
-use Rattle.adr_stamp.specs.Order.{identifier_order, object_order, link_order}
-use Rattle.adr_schema.specs.Table.{Table, has}
+use Rattle.adr_values.specs.declared.stamp.Oid.{Oid}
+use Rattle.adr_values.specs.declared.stamp.LinkKey.{LinkKey}
+use Rattle.adr_values.specs.declared.stamp.LinkStamp.{LinkStamp}
+use Rattle.adr_values.specs.declared.mark.Mark.{Mark}
+use Rattle.adr_values.specs.Order.{identifier_order, object_order, link_order}
+use Rattle.adr_values.specs.Table.{Table, has}
 use Rattle.adr_model.specs.Update.{Identifier}
 use Rattle.adr_model.specs.Store.{PartnerMark}
 use Rattle.adr_model.specs.Live.{is_among}

@@ -8,17 +8,17 @@ use Rattle.std.specs.BTreeSet.{insert_key}
 use Rattle.std.proofs.lemmas.Bool.{eqb-true, eq-eqb, le-leb, and_from, or_cases, both_ways}
 use Rattle.std.proofs.lemmas.List.{length-map}
 use Rattle.std.proofs.lemmas.Cmp.{tied_itself}
-use Rattle.adr_stamp.specs.declared.Oid.{Oid}
-use Rattle.adr_stamp.specs.declared.LinkKey.{LinkKey}
-use Rattle.adr_stamp.specs.declared.Unit.{Unit as Named}
-use Rattle.adr_stamp.specs.declared.Unit.TheVariants.{Object, Link}
-use Rattle.adr_stamp.specs.Order.{identifier_order, object_order, link_order}
-use Rattle.adr_stamp.specs.contracts.OidOrd.TheImpl.Laws.{total-law as objects_total}
-use Rattle.adr_stamp.specs.contracts.LinkKeyOrd.TheImpl.Laws.{total-law as links_total}
-use Rattle.adr_stamp.proofs.Exact.{exact_objects}
-use Rattle.adr_schema.specs.Table.{Table, has, must_of}
-use Rattle.adr_schema.specs.Schemas.{schema_table, schema_1, schema_2}
-use Rattle.adr_schema.specs.Numbered.{numbered}
+use Rattle.adr_values.specs.declared.stamp.Oid.{Oid}
+use Rattle.adr_values.specs.declared.stamp.LinkKey.{LinkKey}
+use Rattle.adr_values.specs.declared.stamp.Unit.{Unit as Named}
+use Rattle.adr_values.specs.declared.stamp.Unit.TheVariants.{Object, Link}
+use Rattle.adr_values.specs.Order.{identifier_order, object_order, link_order}
+use Rattle.adr_values.specs.contracts.stamp.OidOrd.TheImpl.Laws.{total-law as objects_total}
+use Rattle.adr_values.specs.contracts.stamp.LinkKeyOrd.TheImpl.Laws.{total-law as links_total}
+use Rattle.adr_values.proofs.ExactOrders.{exact_objects}
+use Rattle.adr_values.specs.Table.{Table, has, must_of}
+use Rattle.adr_values.specs.Schemas.{schema_table, schema_1, schema_2}
+use Rattle.adr_values.specs.Numbered.{numbered}
 use Rattle.adr_wire.specs.Reading.{is_above}
 use Rattle.adr_wire.specs.Ranges.{IsU32, IsId, IsMark, InTurn}
 use Rattle.adr_wire.specs.Gathering.{Along}

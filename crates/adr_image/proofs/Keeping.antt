@@ -7,12 +7,12 @@ use Rattle.std.specs.BTreeSet.{insert_key}
 use Rattle.std.proofs.lemmas.Grind.{flat_map-append}
 use Rattle.std.proofs.lemmas.List.Sums.{fold-append}
 use Rattle.std.proofs.lemmas.Map.Lookups.{exact_unsigned}
-use Rattle.adr_failure.specs.declared.Failure.{Failure}
-use Rattle.adr_stamp.specs.declared.Oid.{Oid}
-use Rattle.adr_stamp.specs.declared.LinkKey.{LinkKey}
-use Rattle.adr_stamp.specs.Order.{object_order, link_order}
-use Rattle.adr_stamp.proofs.Exact.{exact_objects}
-use Rattle.adr_schema.specs.Table.{Table, has, kind_at, is_forward, must_of}
+use Rattle.adr_values.specs.declared.failure.Failure.{Failure}
+use Rattle.adr_values.specs.declared.stamp.Oid.{Oid}
+use Rattle.adr_values.specs.declared.stamp.LinkKey.{LinkKey}
+use Rattle.adr_values.specs.Order.{object_order, link_order}
+use Rattle.adr_values.proofs.ExactOrders.{exact_objects}
+use Rattle.adr_values.specs.Table.{Table, has, kind_at, is_forward, must_of}
 use Rattle.adr_wire.specs.declared.refusal.Malformed.{Malformed}
 use Rattle.adr_wire.specs.Reading.{Rest, Read, Reading, Refuses, as_at, where_at, then_at, is_above, passing_at, gathered_at}
 use Rattle.adr_wire.specs.Fields.{u16_at, flag_at}

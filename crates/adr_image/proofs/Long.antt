@@ -2,9 +2,9 @@
 use Rattle.std.proofs.Common.{◌≡◌, ℕ, ◌*◌, Bool, List, [], ◌∷◌, ◌++◌, length, Option, Some, None, refl, arith}
 use Rattle.std.specs.List.{flat_map, AllByRecursion}
 use Rattle.std.proofs.lemmas.List.{length-append}
-use Rattle.adr_stamp.specs.declared.Oid.{Oid}
-use Rattle.adr_schema.specs.Table.{Table}
-use Rattle.adr_schema.specs.Numbered.{numbered}
+use Rattle.adr_values.specs.declared.stamp.Oid.{Oid}
+use Rattle.adr_values.specs.Table.{Table}
+use Rattle.adr_values.specs.Numbered.{numbered}
 use Rattle.adr_wire.specs.Fields.{u16, u32, u64, flag}
 use Rattle.adr_wire.specs.Composites.{oid, stamp, content, row, link, link_key, link_stamp}
 use Rattle.adr_wire.specs.Ranges.{InTurn}

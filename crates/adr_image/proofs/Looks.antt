@@ -1,10 +1,10 @@
 -- A reader that looks at an object again only where it was refused.
 use Rattle.std.proofs.Common.{List, ◌≡◌, ℕ, ◌≤◌, true, Result, Ok, Err, ◌∙◌}
 use Rattle.std.specs.Prelude.{is_ok}
-use Rattle.adr_schema.specs.Table.{Table}
-use Rattle.adr_failure.specs.declared.Failure.{Failure}
+use Rattle.adr_values.specs.Table.{Table}
+use Rattle.adr_values.specs.declared.failure.Failure.{Failure}
 use Rattle.adr_wire.specs.declared.refusal.Malformed.{Malformed}
-use Rattle.adr_stamp.specs.declared.Oid.{Oid}
+use Rattle.adr_values.specs.declared.stamp.Oid.{Oid}
 use Rattle.adr_wire.specs.Reading.{Rest, Read, Tells}
 use Rattle.adr_model.specs.Write.{usn_limit}
 use Rattle.adr_image.specs.Image.{Rows, HeldLink, local_at, Earlier, object_with, object_at, Linked, local_and_key, link_behind, link_at}

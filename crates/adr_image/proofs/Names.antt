@@ -2,11 +2,11 @@
 use Rattle.std.proofs.Common.{◌≡◌, true, ap}
 use Rattle.std.specs.Ordering.{is_eq}
 use Rattle.std.proofs.lemmas.Cmp.{tied_itself}
-use Rattle.adr_stamp.specs.declared.Oid.{Oid}
-use Rattle.adr_stamp.specs.declared.Unit.TheVariants.{Object}
-use Rattle.adr_stamp.specs.Order.{object_order}
-use Rattle.adr_stamp.proofs.Exact.{exact_objects}
-use Rattle.adr_stamp.proofs.Units.{units_total}
+use Rattle.adr_values.specs.declared.stamp.Oid.{Oid}
+use Rattle.adr_values.specs.declared.stamp.Unit.TheVariants.{Object}
+use Rattle.adr_values.specs.Order.{object_order}
+use Rattle.adr_values.proofs.ExactOrders.{exact_objects}
+use Rattle.adr_values.proofs.Units.{units_total}
 use Rattle.adr_model.specs.Update.{same_object}
 use Rattle.adr_model.proofs.Keys.{equal_order}
 

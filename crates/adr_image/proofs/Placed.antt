@@ -1,6 +1,6 @@
 -- An image is spelled in one way, alone and in other bytes.
 use Rattle.std.proofs.Common.{◌≡◌, ℕ, List, [], Ok, refl, sym, ap, ◌∙◌, arith}
-use Rattle.adr_vector.specs.Vector.{Cursors}
+use Rattle.adr_values.specs.Vector.{Cursors}
 use Rattle.adr_wire.specs.Fields.{format_version_at, magic_at}
 use Rattle.adr_wire.specs.Reading.{Rest, Read, ◌>>=◌, then_at}
 use Rattle.adr_wire.specs.Spelling.{AreBytes, IsSpelling}

@@ -4,7 +4,7 @@ use Rattle.std.specs.Prelude.{All, is_some}
 use Rattle.std.specs.List.{flat_map}
 use Rattle.std.proofs.lemmas.Bool.{eqb-true}
 use Rattle.std.proofs.lemmas.List.{length-append, nil_from_length}
-use Rattle.adr_stamp.specs.declared.Oid.{Oid}
+use Rattle.adr_values.specs.declared.stamp.Oid.{Oid}
 use Rattle.adr_wire.specs.Composites.{Row, row, oid, vector}
 use Rattle.adr_wire.specs.Fields.{flag, u16, u32, u64}
 use Rattle.adr_wire.specs.Pieces.{Piece, OfRows, OfLink, IsPiece, piece}

@@ -10,11 +10,11 @@ use Rattle.std.specs.declared.cmp.Ordering.{Ordering}
 use Rattle.std.specs.declared.cmp.Ordering.TheVariants.{Less, Equal, Greater}
 use Rattle.std.proofs.lemmas.Bool.{leb-false}
 use Rattle.std.proofs.lemmas.Cmp.{nat_list_cmp_total}
-use Rattle.adr_stamp.specs.declared.Oid.{Oid}
-use Rattle.adr_stamp.specs.Order.{identifier_order}
-use Rattle.adr_schema.specs.Numbered.{numbered}
-use Rattle.adr_schema.specs.Schemas.{schema_table}
-use Rattle.adr_vector.specs.Vector.{Cursors, at, covers, raised, joined}
+use Rattle.adr_values.specs.declared.stamp.Oid.{Oid}
+use Rattle.adr_values.specs.Order.{identifier_order}
+use Rattle.adr_values.specs.Numbered.{numbered}
+use Rattle.adr_values.specs.Schemas.{schema_table}
+use Rattle.adr_values.specs.Vector.{Cursors, at, covers, raised, joined}
 use Rattle.adr_wire.specs.Composites.{Row}
 use Rattle.adr_wire.specs.Pieces.{Piece, OfRows, OfLink, IsPiece}
 use Rattle.adr_wire.specs.Ranges.{InTurn, IsCursor, IsId, IsMark, IsOid, IsRowAbove, IsUsn}

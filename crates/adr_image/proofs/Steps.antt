@@ -2,10 +2,10 @@
 use Rattle.std.proofs.Common.{◌≡◌, ℕ, ◌-◌, ◌≤◌, ◌^◌, Bool, true, false, cond, eqb, List, [], Option, Some, None, Ok, Err, refl, sym, ap, subst, ◌∙◌, arith}
 use Rattle.std.specs.Prelude.{is_some, nat_le}
 use Rattle.std.proofs.lemmas.Bool.{eqb-true, le-leb, ltb-true}
-use Rattle.adr_schema.specs.Numbered.{numbered}
-use Rattle.adr_schema.specs.Schemas.{schema_1, schema_2, schema_table}
-use Rattle.adr_schema.specs.Table.{Table}
-use Rattle.adr_vector.specs.Vector.{Cursors, at_most}
+use Rattle.adr_values.specs.Numbered.{numbered}
+use Rattle.adr_values.specs.Schemas.{schema_1, schema_2, schema_table}
+use Rattle.adr_values.specs.Table.{Table}
+use Rattle.adr_values.specs.Vector.{Cursors, at_most}
 use Rattle.adr_wire.specs.Reading.{Rest, Read, Reading, ◌>>=◌, elements_at, where_at, then_at, gathered_at, keyed}
 use Rattle.adr_wire.specs.Fields.{u32_at, u64_at, is_usn0, usn0_at}
 use Rattle.adr_wire.specs.Composites.{vector_at}

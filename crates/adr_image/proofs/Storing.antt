@@ -7,12 +7,12 @@ use Rattle.std.specs.Ordering.{is_eq, is_lt, nat_cmp}
 use Rattle.std.specs.declared.cmp.Ordering.{Ordering}
 use Rattle.std.specs.declared.cmp.Ordering.TheVariants.{Less, Equal, Greater}
 use Rattle.std.specs.Cmp.{IsTotalOrder}
-use Rattle.adr_stamp.specs.declared.Oid.{Oid}
-use Rattle.adr_stamp.specs.Order.{object_order, link_order}
-use Rattle.adr_schema.specs.declared.content.Content.{Content}
-use Rattle.adr_schema.specs.declared.content.Content.TheVariants.{Class, Name, Dead, Values}
-use Rattle.adr_schema.specs.Table.{Table}
-use Rattle.adr_schema.specs.Numbered.{numbered}
+use Rattle.adr_values.specs.declared.stamp.Oid.{Oid}
+use Rattle.adr_values.specs.Order.{object_order, link_order}
+use Rattle.adr_values.specs.declared.content.Content.{Content}
+use Rattle.adr_values.specs.declared.content.Content.TheVariants.{Class, Name, Dead, Values}
+use Rattle.adr_values.specs.Table.{Table}
+use Rattle.adr_values.specs.Numbered.{numbered}
 use Rattle.adr_wire.specs.Reading.{is_above}
 use Rattle.adr_wire.specs.Ranges.{InTurn}
 use Rattle.adr_model.specs.Update.{same_object}

@@ -1,10 +1,10 @@
 -- A whole image is spelled in one way.
 use Rattle.std.proofs.Common.{◌≡◌, ℕ, ◌≤◌, Bool, true, leb, List, ◌++◌, Ok, refl, arith}
 use Rattle.std.specs.Prelude.{is_some}
-use Rattle.adr_schema.specs.Table.{Table}
-use Rattle.adr_schema.specs.Schemas.{schema_table}
-use Rattle.adr_schema.specs.Numbered.{numbered}
-use Rattle.adr_vector.specs.Vector.{Cursors, at_most}
+use Rattle.adr_values.specs.Table.{Table}
+use Rattle.adr_values.specs.Schemas.{schema_table}
+use Rattle.adr_values.specs.Numbered.{numbered}
+use Rattle.adr_values.specs.Vector.{Cursors, at_most}
 use Rattle.adr_wire.specs.Reading.{Reading, where_at, then_at}
 use Rattle.adr_wire.specs.Fields.{u32_at, usn0_at, u32, u64}
 use Rattle.adr_wire.specs.Composites.{vector_at, vector}

@@ -1,8 +1,8 @@
 -- A change as the body of a journal's record, and back.
 use Rattle.std.specs.Prelude.{if◌then◌else◌, ◌≡◌, ◌<◌, ◌^◌, ℕ, List, [], ◌++◌, All, Bool, true, false, ◌==◌, length, map, Option, Some, None, Ok, Err}
 use Rattle.std.specs.List.{flat_map}
-use Rattle.adr_stamp.specs.declared.Unit.{Unit as Named}
-use Rattle.adr_stamp.specs.declared.Unit.TheVariants.{Object, Link}
+use Rattle.adr_values.specs.declared.stamp.Unit.{Unit as Named}
+use Rattle.adr_values.specs.declared.stamp.Unit.TheVariants.{Object, Link}
 use Rattle.adr_wire.specs.Composites.{oid, vector}
 use Rattle.adr_wire.specs.Fields.{flag, u8, u16, u32, u64}
 use Rattle.adr_wire.specs.Pieces.{Piece, OfRows, OfLink}

@@ -1,14 +1,14 @@
 -- The parts of an image as bytes: held rows, objects with their held rows, links and marks.
 use Rattle.std.specs.Prelude.{if◌then◌else◌, ℕ, List, [], ◌∷◌, ◌++◌, length, Bool, true, false, not, ◌&&◌, ◌||◌, ◌==◌, nat_le, max, fold, Option, None, Some, is_none, is_some, unwrap_or}
 use Rattle.std.specs.List.{flat_map, list_any, list_all}
-use Rattle.adr_stamp.specs.declared.Oid.{Oid}
-use Rattle.adr_stamp.specs.declared.LinkKey.{LinkKey}
-use Rattle.adr_stamp.specs.Order.{identifier_order, object_order, link_order}
-use Rattle.adr_schema.specs.declared.content.Content.{Content}
-use Rattle.adr_schema.specs.declared.content.Content.TheVariants.{Class, Name, Dead, Values}
-use Rattle.adr_schema.specs.Table.{Table, class_at, must_of, has, kind_at, is_forward}
-use Rattle.adr_schema.specs.Names.{name_fault}
-use Rattle.adr_schema.specs.Rules.{row_refusal}
+use Rattle.adr_values.specs.declared.stamp.Oid.{Oid}
+use Rattle.adr_values.specs.declared.stamp.LinkKey.{LinkKey}
+use Rattle.adr_values.specs.Order.{identifier_order, object_order, link_order}
+use Rattle.adr_values.specs.declared.content.Content.{Content}
+use Rattle.adr_values.specs.declared.content.Content.TheVariants.{Class, Name, Dead, Values}
+use Rattle.adr_values.specs.Table.{Table, class_at, must_of, has, kind_at, is_forward}
+use Rattle.adr_values.specs.Names.{name_fault}
+use Rattle.adr_values.specs.Rules.{row_refusal}
 use Rattle.adr_wire.specs.Reading.{Reading, as_at, where_at, then_at, elements_at, is_above, above_at, passing_at, gathered_at}
 use Rattle.adr_wire.specs.Fields.{u16_at, id_at, usn_at, flag_at, u16, u64, id}
 use Rattle.adr_wire.specs.Composites.{oid_at, oid, Row, row_after, row, link_stamp_at, LinkItem, link, ordered_mark_at, mark}

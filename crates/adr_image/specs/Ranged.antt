@@ -1,12 +1,12 @@
 -- Which parts of an image have a spelling.
 use Rattle.std.specs.Prelude.{◌≡◌, ℕ, List, length, Bool, true, not, ◌&&◌, nat_le, Option, None, is_some}
-use Rattle.adr_stamp.specs.declared.Oid.{Oid}
-use Rattle.adr_stamp.specs.declared.LinkKey.{LinkKey}
-use Rattle.adr_stamp.specs.Order.{identifier_order, object_order, link_order}
-use Rattle.adr_schema.specs.Table.{Table, has, kind_at, is_forward}
-use Rattle.adr_schema.specs.Schemas.{schema_table}
-use Rattle.adr_schema.specs.Numbered.{numbered}
-use Rattle.adr_vector.specs.Vector.{at_most}
+use Rattle.adr_values.specs.declared.stamp.Oid.{Oid}
+use Rattle.adr_values.specs.declared.stamp.LinkKey.{LinkKey}
+use Rattle.adr_values.specs.Order.{identifier_order, object_order, link_order}
+use Rattle.adr_values.specs.Table.{Table, has, kind_at, is_forward}
+use Rattle.adr_values.specs.Schemas.{schema_table}
+use Rattle.adr_values.specs.Numbered.{numbered}
+use Rattle.adr_values.specs.Vector.{at_most}
 use Rattle.adr_wire.specs.Reading.{is_above}
 use Rattle.adr_wire.specs.Ranges.{IsU16, IsU32, IsU64, IsId, IsUsn, IsUsn0, IsOrderedMark, IsOid, IsStamp, IsRowAbove, InTurn, IsCursors}
 use Rattle.adr_model.specs.Update.{Identifier}

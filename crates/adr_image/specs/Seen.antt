@@ -1,9 +1,9 @@
 -- What a reader keeps of the parts that it has read.
 use Rattle.std.specs.Prelude.{◌≡◌, ◌&&◌, ◌||◌, ℕ, Bool, List, fold, Result, Ok, Err}
 use Rattle.std.specs.List.{flat_map}
-use Rattle.adr_failure.specs.declared.Failure.{Failure}
-use Rattle.adr_stamp.specs.declared.Oid.{Oid}
-use Rattle.adr_schema.specs.Table.{has}
+use Rattle.adr_values.specs.declared.failure.Failure.{Failure}
+use Rattle.adr_values.specs.declared.stamp.Oid.{Oid}
+use Rattle.adr_values.specs.Table.{has}
 use Rattle.adr_wire.specs.declared.refusal.Malformed.{Malformed}
 use Rattle.adr_wire.specs.Reading.{Rest, Read, Refuses}
 use Rattle.adr_model.specs.Update.{same_object}

@@ -2,13 +2,13 @@
 use Rattle.std.specs.Prelude.{if◌then◌else◌, ◌≡◌, ℕ, List, [], ◌∷◌, ◌++◌, map, true, false, is_some, Result, ⊤}
 use Rattle.std.specs.List.{flat_map, AllByRecursion}
 use Rattle.std.specs.List.Sorted.{IsStrictlySortedBy}
-use Rattle.adr_stamp.specs.Order.{identifier_order}
-use Rattle.adr_stamp.specs.declared.Oid.{Oid}
-use Rattle.adr_stamp.specs.declared.LinkStamp.{LinkStamp}
-use Rattle.adr_schema.specs.declared.content.Content.TheVariants.{Class}
-use Rattle.adr_schema.specs.Table.{class_at}
-use Rattle.adr_schema.specs.Schemas.{schema_table}
-use Rattle.adr_schema.specs.Numbered.{numbered}
+use Rattle.adr_values.specs.Order.{identifier_order}
+use Rattle.adr_values.specs.declared.stamp.Oid.{Oid}
+use Rattle.adr_values.specs.declared.stamp.LinkStamp.{LinkStamp}
+use Rattle.adr_values.specs.declared.content.Content.TheVariants.{Class}
+use Rattle.adr_values.specs.Table.{class_at}
+use Rattle.adr_values.specs.Schemas.{schema_table}
+use Rattle.adr_values.specs.Numbered.{numbered}
 use Rattle.adr_wire.specs.declared.refusal.DecodeRefusal.{DecodeRefusal}
 use Rattle.adr_wire.specs.Headed.{headed_at, read_first}
 use Rattle.adr_wire.specs.Reading.{Reading, as_at}

@@ -1,11 +1,11 @@
 -- A whole image: its parts as bytes, and the store that they are.
 use Rattle.std.specs.Prelude.{ℕ, List, [], ◌∷◌, ◌++◌, length, map, nat_le, filter, fold, None, is_some, Result}
 use Rattle.std.specs.List.{flat_map}
-use Rattle.adr_stamp.specs.declared.Oid.{Oid}
-use Rattle.adr_schema.specs.Table.{Table}
-use Rattle.adr_schema.specs.Schemas.{schema_table}
-use Rattle.adr_schema.specs.Numbered.{numbered}
-use Rattle.adr_vector.specs.Vector.{Cursors, at_most}
+use Rattle.adr_values.specs.declared.stamp.Oid.{Oid}
+use Rattle.adr_values.specs.Table.{Table}
+use Rattle.adr_values.specs.Schemas.{schema_table}
+use Rattle.adr_values.specs.Numbered.{numbered}
+use Rattle.adr_values.specs.Vector.{Cursors, at_most}
 use Rattle.adr_wire.specs.declared.refusal.DecodeRefusal.{DecodeRefusal}
 use Rattle.adr_wire.specs.Headed.{head, read_first}
 use Rattle.adr_wire.specs.Reading.{Reading, as_at, where_at, then_at, gathered_at}

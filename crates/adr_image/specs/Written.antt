@@ -1,8 +1,8 @@
 -- Held rows as an image has them.
 use Rattle.std.specs.Prelude.{if◌then◌else◌, ◌≡◌, ◌≤◌, ◌<◌, ◌^◌, ℕ, suc, List, [], ◌∷◌, ◌++◌, All, Option, Some, None, ⊤, drop, length, map, take}
 use Rattle.std.specs.List.{filter_map, flat_map}
-use Rattle.adr_stamp.specs.declared.Oid.{Oid}
-use Rattle.adr_stamp.specs.declared.LinkStamp.{LinkStamp}
+use Rattle.adr_values.specs.declared.stamp.Oid.{Oid}
+use Rattle.adr_values.specs.declared.stamp.LinkStamp.{LinkStamp}
 use Rattle.adr_wire.specs.Fields.{u16, u64}
 use Rattle.adr_wire.specs.Composites.{IsShortContent, link, oid, row}
 use Rattle.adr_model.specs.Live.{born}

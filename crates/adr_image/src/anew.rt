@@ -6,8 +6,8 @@ ghost use Rattle.adr_image.specs.Anew.{MakesAll};
 
 use crate::contents::Contents;
 use adr_change::{Change, Mode, PartnerMark};
-use adr_guid::Guid;
 use adr_update::{Held, Item, NoMemory, Written};
+use adr_values::Guid;
 use std::alloc::Global;
 
 /// A row as what is written under its local update sequence number.

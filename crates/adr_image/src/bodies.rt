@@ -10,9 +10,8 @@ ghost use Rattle.adr_image.specs.Written.{IsShortSaid};
 
 use crate::encoding::{write_kept, write_told};
 use adr_change::{Change, PartnerMark};
-use adr_guid::Guid;
-use adr_stamp::{Oid, Unit};
 use adr_update::{NoMemory, Update, Written};
+use adr_values::{Guid, Oid, Unit};
 use adr_wire::Writer;
 use std::alloc::Global;
 

@@ -17,10 +17,8 @@ use crate::links::LinkItem;
 use crate::marks::read_kept;
 use adr_change::{Change, Mode, PartnerMark};
 use adr_checks::Schema;
-use adr_guid::Guid;
-use adr_schema::Content;
-use adr_stamp::{LinkStamp, Oid, Stamp, Unit};
 use adr_update::{Item, Key, NoMemory, Said, Update, Written};
+use adr_values::{Content, Guid, LinkStamp, Oid, Stamp, Unit};
 use adr_wire::{Failure, Malformed, Reader, WireRefusal};
 use std::alloc::{AllocError, Global};
 

@@ -1,10 +1,10 @@
 //! What stands behind the version of an image.
 
 ghost use Rattle.std.specs.Prelude.{◌≡◌, ◌≤◌, IfOk, is_some};
-ghost use Rattle.adr_schema.specs.Numbered.{numbered};
-ghost use Rattle.adr_schema.specs.Schemas.{schema_table};
+ghost use Rattle.adr_values.specs.Numbered.{numbered};
+ghost use Rattle.adr_values.specs.Schemas.{schema_table};
 ghost use Rattle.adr_model.specs.Write.{usn_limit};
-ghost use Rattle.adr_vector.specs.Vector.{at_most};
+ghost use Rattle.adr_values.specs.Vector.{at_most};
 ghost use Rattle.adr_wire.specs.Composites.{vector_at};
 ghost use Rattle.adr_wire.specs.Fields.{u32_at};
 ghost use Rattle.adr_wire.specs.Reading.{Gives, TellsAs, then_at, where_at};
@@ -16,9 +16,8 @@ use crate::gathered::{read_links, read_objects};
 use crate::marks::read_marks;
 use adr_change::PartnerMark;
 use adr_checks::Schema;
-use adr_guid::Guid;
 use adr_update::Held;
-use adr_vector::Vector;
+use adr_values::{Guid, Vector};
 use adr_wire::{Failure, Malformed, Reader, WireRefusal};
 use std::alloc::Global;
 use std::marker::Model;
@@ -53,7 +52,7 @@ impl Drop for Contents {
 
 impl Model for Contents {
     ghost use Rattle.std.specs.Prelude.{◌≡◌, []};
-    ghost use Rattle.adr_schema.specs.Numbered.{numbered};
+    ghost use Rattle.adr_values.specs.Numbered.{numbered};
     ghost use Rattle.adr_model.specs.Store.{Store};
 
     ghost Value = { Store };
@@ -101,7 +100,7 @@ pub struct ContentsRef<'a> {
 
 impl<'a> Model for ContentsRef<'a> {
     ghost use Rattle.std.specs.Prelude.{◌≡◌, []};
-    ghost use Rattle.adr_schema.specs.Numbered.{numbered};
+    ghost use Rattle.adr_values.specs.Numbered.{numbered};
     ghost use Rattle.adr_model.specs.Store.{Store};
     ghost use Rattle.adr_update.specs.Referents.{referents};
 

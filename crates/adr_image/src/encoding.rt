@@ -17,9 +17,8 @@ ghost use Rattle.adr_image.specs.Written.{HaveFewRows, IsShortSaid, IsWritable, 
 use crate::contents::{Contents, ContentsRef};
 use crate::decoding::{MAGIC, VERSION};
 use adr_change::PartnerMark;
-use adr_guid::Guid;
-use adr_stamp::{LinkStamp, Oid};
 use adr_update::{Held, Key, NoMemory, Said};
+use adr_values::{Guid, LinkStamp, Oid};
 use adr_wire::Writer;
 use std::alloc::Global;
 

@@ -1,10 +1,10 @@
 //! What is known of the units read so far: their last local USNs, and which objects are dead.
 
 ghost use Rattle.std.specs.Prelude.{◌≡◌};
-ghost use Rattle.adr_schema.specs.Table.{has};
+ghost use Rattle.adr_values.specs.Table.{has};
 ghost use Rattle.adr_model.specs.Live.{is_among};
 
-use adr_stamp::Oid;
+use adr_values::Oid;
 use std::collections::BTreeSet;
 
 /// Whether a local USN is the last one of a unit.

@@ -2,8 +2,8 @@
 
 ghost use Rattle.std.specs.Prelude.{◌≡◌, ℕ, List, Ok, Err, Some, length, take, is_some, true};
 ghost use Rattle.adr_wire.specs.declared.refusal.DecodeRefusal.TheVariants.{Malformed};
-ghost use Rattle.adr_schema.specs.Numbered.{numbered};
-ghost use Rattle.adr_schema.specs.Schemas.{schema_table};
+ghost use Rattle.adr_values.specs.Numbered.{numbered};
+ghost use Rattle.adr_values.specs.Schemas.{schema_table};
 ghost use Rattle.adr_wire.specs.Ranges.{IsId};
 ghost use Rattle.adr_wire.specs.Spelling.{AreBytes, IsSpelling};
 ghost use Rattle.adr_model.specs.Formed.{IsFormedStore};

@@ -1,7 +1,7 @@
 //! Links, read one after the other.
 
 ghost use Rattle.std.specs.Prelude.{◌≡◌, not, true, false};
-ghost use Rattle.adr_schema.specs.Table.{has};
+ghost use Rattle.adr_values.specs.Table.{has};
 ghost use Rattle.adr_model.specs.Live.{is_among};
 ghost use Rattle.adr_wire.specs.Composites.{oid_at};
 ghost use Rattle.adr_wire.specs.Fields.{u16_at};
@@ -12,8 +12,8 @@ ghost use Rattle.adr_image.specs.Image as form;
 use crate::known::{is_dead, is_used};
 use crate::rows::read_local;
 use adr_checks::Schema;
-use adr_stamp::{LinkKey, LinkStamp, Oid};
 use adr_update::Held;
+use adr_values::{LinkKey, LinkStamp, Oid};
 use adr_wire::{Failure, Malformed, Reader, WireRefusal};
 use std::collections::BTreeSet;
 

@@ -5,8 +5,8 @@ ghost use Rattle.adr_image.specs.Image.{kept_above};
 ghost use Rattle.adr_image.specs.Whole.{marks_at};
 
 use adr_change::PartnerMark;
-use adr_guid::Guid;
 use adr_update::MARK_LIMIT;
+use adr_values::Guid;
 use adr_wire::{Failure, Malformed, Reader, WireRefusal};
 use std::alloc::Global;
 

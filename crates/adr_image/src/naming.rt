@@ -8,9 +8,8 @@ ghost use Rattle.adr_model.specs.Naming.{cursors_name, key_names, marks_name, ro
 
 use crate::contents::Contents;
 use adr_change::PartnerMark;
-use adr_guid::Guid;
 use adr_update::{Held, Key, is_same};
-use adr_vector::Vector;
+use adr_values::{Guid, Vector};
 
 /// Whether a cursor is of the identifier.
 fn cursors_name(vector: &Vector, inv: Guid) -> bool

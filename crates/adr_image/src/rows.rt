@@ -5,9 +5,8 @@ ghost use Rattle.adr_wire.specs.Reading.{Gives, GivesAs, Tells, gathered_at};
 ghost use Rattle.adr_image.specs.Image as form;
 
 use adr_checks::{Schema, check_name};
-use adr_schema::Content;
-use adr_stamp::{Oid, Stamp};
 use adr_update::carries_birth;
+use adr_values::{Content, Oid, Stamp};
 use adr_wire::{Failure, Malformed, Reader, WireRefusal};
 use std::alloc::Global;
 

@@ -9,9 +9,8 @@ ghost use Rattle.adr_model.specs.Lengths.{change_length, image_length, length_li
 ghost use Rattle.adr_law_journal.specs.Areas.{Began, IsHead, TellsArea, WasArea};
 ghost use Rattle.adr_journal.specs.Kept.{ids_of};
 
-use adr_failure::NoMemory;
-use adr_guid::Guid;
 use adr_state::{Change, State};
+use adr_values::{Guid, NoMemory};
 use adr_wire::WireRefusal;
 use std::alloc::Global;
 use thiserror::Error;

@@ -16,8 +16,8 @@ mod reading;
 mod recording;
 mod replaying;
 
-pub use adr_failure::NoMemory;
 pub use adr_state::{Change, State};
+pub use adr_values::NoMemory;
 pub use committing::{Spelled, spell};
 pub use form::{AreaRead, FollowRefusal, Form, Owner};
 pub use formatting::new_log;

@@ -15,9 +15,9 @@ ghost use Rattle.adr_journal.specs.Written.{AreNoLonger, IsEitherLog, Takes};
 
 use crate::form::Form;
 use adr_disk::{Disk, write_through};
-use adr_failure::NoMemory;
 use adr_io::Fault;
 use adr_state::{Change, State};
+use adr_values::NoMemory;
 use std::alloc::Global;
 
 /// A gate that is open; every other byte is a closed one.

@@ -12,8 +12,8 @@ ghost use Rattle.adr_journal.specs.Reached.{IsOwned, IsReached, IsLog};
 use crate::form::{AreaRead, FollowRefusal, Form, Owner};
 use crate::keeper::StartRefusal;
 use crate::recording::OPEN_GATE;
-use adr_failure::Failure;
 use adr_state::{Log, State};
+use adr_values::Failure;
 use adr_wire::Reader;
 use std::alloc::Global;
 

@@ -1,16 +1,16 @@
 -- What a schema allows of an attribute is of what the attribute holds.
 use Rattle.std.proofs.Common.{◌≡◌, true, get_or, Option, Some, refl, sym, subst}
 use Rattle.std.proofs.lemmas.Option.{slice_get-get_or}
-use Rattle.adr_schema.specs.declared.content.Value.{Value as Item}
-use Rattle.adr_schema.specs.declared.content.Value.TheVariants.{Text, Number, Flag, Octets, Ref}
-use Rattle.adr_schema.specs.declared.table.Kind.{Kind}
-use Rattle.adr_schema.specs.declared.table.Kind.TheVariants.{Plain}
-use Rattle.adr_schema.specs.declared.table.Syntax.{Syntax}
-use Rattle.adr_schema.specs.declared.table.Syntax.TheVariants.{Text as OfText, Number as OfNumber, Flag as OfFlag, Octets as OfOctets, Ref as OfRef}
-use Rattle.adr_schema.specs.Schemas.{newest}
-use Rattle.adr_schema.specs.Table.{kind_at}
-use Rattle.adr_schema.specs.Values.{fits}
-use Rattle.adr_schema.proofs.Extending.{second_is_last}
+use Rattle.adr_values.specs.declared.content.Value.{Value as Item}
+use Rattle.adr_values.specs.declared.content.Value.TheVariants.{Text, Number, Flag, Octets, Ref}
+use Rattle.adr_values.specs.declared.table.Kind.{Kind}
+use Rattle.adr_values.specs.declared.table.Kind.TheVariants.{Plain}
+use Rattle.adr_values.specs.declared.table.Syntax.{Syntax}
+use Rattle.adr_values.specs.declared.table.Syntax.TheVariants.{Text as OfText, Number as OfNumber, Flag as OfFlag, Octets as OfOctets, Ref as OfRef}
+use Rattle.adr_values.specs.Schemas.{newest}
+use Rattle.adr_values.specs.Table.{kind_at}
+use Rattle.adr_values.specs.Values.{fits}
+use Rattle.adr_values.proofs.Extending.{second_is_last}
 use Rattle.adr_json.specs.Exportable.{is_of_kind, is_of_syntax}
 use Rattle.adr_json.specs.Laws.{AllowedValuesAreOfKind}
 

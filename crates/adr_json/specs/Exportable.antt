@@ -2,14 +2,14 @@
 use Rattle.std.specs.Prelude.{◌≡◌, ℕ, List, Bool, true, false, map, All, Option, Some}
 use Rattle.std.specs.List.Sorted.{IsStrictlySortedBy}
 use Rattle.std.specs.Ordering.{nat_cmp}
-use Rattle.adr_schema.specs.declared.content.Value.{Value as Item}
-use Rattle.adr_schema.specs.declared.content.Value.TheVariants.{Text, Number, Flag, Octets, Ref}
-use Rattle.adr_schema.specs.declared.table.Kind.{Kind}
-use Rattle.adr_schema.specs.declared.table.Kind.TheVariants.{Plain}
-use Rattle.adr_schema.specs.declared.table.Syntax.{Syntax}
-use Rattle.adr_schema.specs.declared.table.Syntax.TheVariants.{Text as OfText, Number as OfNumber, Flag as OfFlag, Octets as OfOctets, Ref as OfRef}
-use Rattle.adr_schema.specs.Schemas.{newest}
-use Rattle.adr_schema.specs.Table.{kind_at}
+use Rattle.adr_values.specs.declared.content.Value.{Value as Item}
+use Rattle.adr_values.specs.declared.content.Value.TheVariants.{Text, Number, Flag, Octets, Ref}
+use Rattle.adr_values.specs.declared.table.Kind.{Kind}
+use Rattle.adr_values.specs.declared.table.Kind.TheVariants.{Plain}
+use Rattle.adr_values.specs.declared.table.Syntax.{Syntax}
+use Rattle.adr_values.specs.declared.table.Syntax.TheVariants.{Text as OfText, Number as OfNumber, Flag as OfFlag, Octets as OfOctets, Ref as OfRef}
+use Rattle.adr_values.specs.Schemas.{newest}
+use Rattle.adr_values.specs.Table.{kind_at}
 use Rattle.adr_call.specs.declared.directory.Entry.{Entry}
 use Rattle.adr_answers.specs.Printable.{IsPrintableEntry}
 

@@ -1,9 +1,9 @@
 -- The laws of the JSON of directories: it reads back, it tells the directory, and what a schema allows is told.
 use Rattle.std.specs.Prelude.{◌≡◌, ℕ, List, Some}
 use Rattle.serde_json.specs.Read.{read}
-use Rattle.adr_schema.specs.declared.content.Value.{Value as Item}
-use Rattle.adr_schema.specs.Allowed.{IsAllowed}
-use Rattle.adr_schema.specs.Numbered.{numbered}
+use Rattle.adr_values.specs.declared.content.Value.{Value as Item}
+use Rattle.adr_values.specs.Allowed.{IsAllowed}
+use Rattle.adr_values.specs.Numbered.{numbered}
 use Rattle.adr_call.specs.declared.directory.Entry.{Entry}
 use Rattle.adr_answers.specs.Printable.{IsPrintable}
 use Rattle.adr_json.specs.Text.{array_by, entry_json, json_text}

@@ -1,7 +1,7 @@
 -- Small directories, and their texts.
 use Rattle.std.specs.Prelude.{ℕ, List, [], ◌∷◌, ◌++◌, codes, true, negsuc}
 use Rattle.std.specs.Int.{w128, to_be_bytes}
-use Rattle.adr_schema.specs.declared.content.Value.TheVariants.{Text, Number, Flag, Octets, Ref}
+use Rattle.adr_values.specs.declared.content.Value.TheVariants.{Text, Number, Flag, Octets, Ref}
 use Rattle.adr_call.specs.declared.directory.Entry.{Entry}
 
 -- the identifier of a number

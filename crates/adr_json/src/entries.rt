@@ -8,8 +8,8 @@ ghost use Rattle.adr_json.specs.Text.{entry_json, json_text};
 use crate::objects::object_json;
 use crate::values::{class_text, identifier_json};
 use adr_call::{Directory, Entry};
-use adr_schema::NoMemory;
 use adr_token::push;
+use adr_values::NoMemory;
 use serde_json::{Value as Json, json};
 use std::alloc::Global;
 

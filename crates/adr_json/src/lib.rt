@@ -10,7 +10,7 @@ mod objects;
 mod values;
 
 pub use adr_call::Directory;
-pub use adr_schema::NoMemory;
+pub use adr_values::NoMemory;
 pub use entries::json;
 pub use laws::{
     allowed_values_are_of_kind, equal_json_means_equal_directories, json_reads_back,

@@ -7,8 +7,7 @@ ghost use Rattle.adr_json.specs.Text.{array_by, identifier_json, object_of, valu
 
 use crate::values::{attribute_text, identifier_json, value_json};
 use adr_call::Guids;
-use adr_guid::Guid;
-use adr_schema::{NoMemory, Value, Values};
+use adr_values::{Guid, NoMemory, Value, Values};
 use serde_json::{Map, Value as Json};
 use std::alloc::Global;
 

@@ -9,8 +9,7 @@ ghost use Rattle.adr_token.specs.Spelling.{attribute_token, class_token, name_or
 ghost use Rattle.adr_json.specs.Text.{identifier_json, value_json};
 
 use adr_checks::{attribute_name, class_name};
-use adr_guid::Guid;
-use adr_schema::{NoMemory, Value};
+use adr_values::{Guid, NoMemory, Value};
 use serde_json::Value as Json;
 use std::alloc::Global;
 

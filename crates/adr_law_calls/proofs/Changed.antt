@@ -1,17 +1,17 @@
 -- An object that is renamed, deleted or modified is live, and its rows are such as the schema wants.
 use Rattle.std.proofs.Common.{◌≡◌, inl, inr, ℕ, ◌<◌, List, [], ◌∷◌, None, refl, sym, ap, ◌∙◌, subst, map, arith}
-use Rattle.adr_stamp.specs.declared.Oid.{Oid}
-use Rattle.adr_stamp.specs.declared.Unit.TheVariants.{Object}
-use Rattle.adr_schema.specs.Assignments.{Given}
-use Rattle.adr_schema.specs.Allowed.{MayBeHeld}
-use Rattle.adr_schema.specs.Numbered.{numbered}
-use Rattle.adr_schema.specs.Names.{name_fault}
-use Rattle.adr_schema.specs.declared.content.Content.{Content}
-use Rattle.adr_schema.specs.declared.content.Content.TheVariants.{Name, Dead, Values}
-use Rattle.adr_schema.specs.declared.refusal.SchemaRefusal.TheVariants.{BadName}
-use Rattle.adr_schema.specs.Rules.{modify_refusal as schema_modify_refusal}
-use Rattle.adr_schema.proofs.ExactRows.{may_be_held, modified_may_be_held}
-use Rattle.adr_vector.specs.Vector.{at}
+use Rattle.adr_values.specs.declared.stamp.Oid.{Oid}
+use Rattle.adr_values.specs.declared.stamp.Unit.TheVariants.{Object}
+use Rattle.adr_values.specs.Assignments.{Given}
+use Rattle.adr_values.specs.Allowed.{MayBeHeld}
+use Rattle.adr_values.specs.Numbered.{numbered}
+use Rattle.adr_values.specs.Names.{name_fault}
+use Rattle.adr_values.specs.declared.content.Content.{Content}
+use Rattle.adr_values.specs.declared.content.Content.TheVariants.{Name, Dead, Values}
+use Rattle.adr_values.specs.declared.refusal.SchemaRefusal.TheVariants.{BadName}
+use Rattle.adr_values.specs.Rules.{modify_refusal as schema_modify_refusal}
+use Rattle.adr_values.proofs.ExactRows.{may_be_held, modified_may_be_held}
+use Rattle.adr_values.specs.Vector.{at}
 use Rattle.adr_call.specs.declared.refusal.WriteRefusal.TheVariants.{Schema as BreaksSchema}
 use Rattle.adr_model.specs.Member.{Member, Each}
 use Rattle.adr_model.specs.Update.{Identifier, RowOf, Holds, Update, unit_of, name_attr, deleted_attr}

@@ -1,9 +1,9 @@
 -- A collection of a formed state leaves a formed one.
 use Rattle.std.proofs.Common.{⊎_elim, ℕ, ◌≤◌, arith}
-use Rattle.adr_schema.specs.Numbered.{numbered}
-use Rattle.adr_vector.specs.Vector.{IsVector, at}
-use Rattle.adr_vector.proofs.Comparing.{at_most_from_everywhere}
-use Rattle.adr_vector.proofs.Joining.{raised_here}
+use Rattle.adr_values.specs.Numbered.{numbered}
+use Rattle.adr_values.specs.Vector.{IsVector, at}
+use Rattle.adr_values.proofs.Comparing.{at_most_from_everywhere}
+use Rattle.adr_values.proofs.Joining.{raised_here}
 use Rattle.adr_model.specs.Member.{Each}
 use Rattle.adr_model.specs.Reflects.{AtMost, Covers, CoversBirth}
 use Rattle.adr_model.specs.Store.{State}
@@ -18,7 +18,7 @@ use Rattle.adr_law_calls.proofs.Removing.{stood_before, stay_alone}
 use Rattle.adr_law_calls.proofs.RemovingForms.{stay_formed}
 use Rattle.adr_law_calls.proofs.RemovingSizes.{objects_fewer, links_fewer}
 use Rattle.adr_law_calls.proofs.CollectionFollows.{usn_of_collection}
-use Rattle.adr_vector.proofs.Moments.{times_stay}
+use Rattle.adr_values.proofs.Moments.{times_stay}
 
 module _ (s : State) (now lifetime : ℕ) (is : IsFormed s) where
   open (collecting s now lifetime) use {dead, c, d, rows, os}

@@ -1,6 +1,6 @@
 -- What a collection is of: who is dead, its change, the state behind it, the rows that it finds, and the objects that go.
 use Rattle.std.proofs.Common.{ℕ, List, map}
-use Rattle.adr_stamp.specs.declared.Oid.{Oid}
+use Rattle.adr_values.specs.declared.stamp.Oid.{Oid}
 use Rattle.adr_model.specs.Update.{Update}
 use Rattle.adr_model.specs.Store.{Held, State}
 use Rattle.adr_model.specs.Change.{Change, after}

@@ -1,20 +1,20 @@
 -- An object that is added wasn't held, and its rows are all that the schema wants of it.
 use Rattle.std.proofs.Common.{◌≡◌, ◌⊎◌, inl, inr, ℕ, ◌≤◌, ◌<◌, ◌+◌, List, true, false, ◌||◌, Option, Some, None, is_some, refl, sym, ap, ◌∙◌, subst, length, eq-eqb, arith}
 use Rattle.std.proofs.lemmas.Bool.{and_from, or_parts}
-use Rattle.adr_stamp.specs.declared.Oid.{Oid}
-use Rattle.adr_stamp.specs.declared.Unit.TheVariants.{Object}
-use Rattle.adr_schema.specs.Assignments.{Given, given}
-use Rattle.adr_schema.specs.Allowed.{MayBeAdded}
-use Rattle.adr_schema.specs.Numbered.{numbered}
-use Rattle.adr_schema.specs.Names.{name_fault}
-use Rattle.adr_schema.specs.declared.content.Value.{Value as Datum}
-use Rattle.adr_schema.specs.declared.content.Content.TheVariants.{Class, Name, Values}
-use Rattle.adr_schema.specs.declared.refusal.SchemaRefusal.TheVariants.{BadName}
-use Rattle.adr_schema.specs.Rules.{add_refusal as schema_add_refusal}
-use Rattle.adr_schema.proofs.ExactCalls.{may_be_added}
-use Rattle.adr_schema.proofs.ExactRows.{may_be_held, added_may_be_held}
-use Rattle.adr_vector.specs.Vector.{at, raised, cursor_limit}
-use Rattle.adr_vector.proofs.Cursors.{test_itself}
+use Rattle.adr_values.specs.declared.stamp.Oid.{Oid}
+use Rattle.adr_values.specs.declared.stamp.Unit.TheVariants.{Object}
+use Rattle.adr_values.specs.Assignments.{Given, given}
+use Rattle.adr_values.specs.Allowed.{MayBeAdded}
+use Rattle.adr_values.specs.Numbered.{numbered}
+use Rattle.adr_values.specs.Names.{name_fault}
+use Rattle.adr_values.specs.declared.content.Value.{Value as Datum}
+use Rattle.adr_values.specs.declared.content.Content.TheVariants.{Class, Name, Values}
+use Rattle.adr_values.specs.declared.refusal.SchemaRefusal.TheVariants.{BadName}
+use Rattle.adr_values.specs.Rules.{add_refusal as schema_add_refusal}
+use Rattle.adr_values.proofs.ExactCalls.{may_be_added}
+use Rattle.adr_values.proofs.ExactRows.{may_be_held, added_may_be_held}
+use Rattle.adr_values.specs.Vector.{at, raised, cursor_limit}
+use Rattle.adr_values.proofs.Cursors.{test_itself}
 use Rattle.adr_call.specs.declared.refusal.Table.TheVariants.{Objects, Cursors}
 use Rattle.adr_call.specs.declared.refusal.WriteRefusal.{WriteRefusal}
 use Rattle.adr_call.specs.declared.refusal.WriteRefusal.TheVariants.{Schema as BreaksSchema, GuidThere}

@@ -1,11 +1,11 @@
 -- The least vector that covers births and deaths: it covers each of them, and no more than a vector that covers them all.
 use Rattle.std.proofs.Common.{◌≡◌, inl, inr, ℕ, ◌≤◌, List, [], ◌∷◌, Bool, true, false, cond, fold, max, refl, sym, ap, subst, arith}
 use Rattle.std.specs.Ordering.{is_eq}
-use Rattle.adr_stamp.specs.declared.Oid.{Oid}
-use Rattle.adr_stamp.specs.Order.{identifier_order}
-use Rattle.adr_vector.specs.Vector.{Cursors, at, raised}
-use Rattle.adr_vector.proofs.Cursors.{IsRising, nil_rising, same_from_test}
-use Rattle.adr_vector.proofs.Joining.{at-raised, raised_here, rising-raised}
+use Rattle.adr_values.specs.declared.stamp.Oid.{Oid}
+use Rattle.adr_values.specs.Order.{identifier_order}
+use Rattle.adr_values.specs.Vector.{Cursors, at, raised}
+use Rattle.adr_values.proofs.Cursors.{IsRising, nil_rising, same_from_test}
+use Rattle.adr_values.proofs.Joining.{at-raised, raised_here, rising-raised}
 use Rattle.adr_model.specs.Member.{Each}
 use Rattle.adr_model.specs.Update.{Identifier, Update, inv_of, usn_of}
 use Rattle.adr_model.specs.Reflects.{Numbers, Covers, CoversBirth, AtMost}

@@ -4,11 +4,11 @@ use Rattle.std.specs.Bool.{then_some}
 use Rattle.std.specs.Option.{option_map}
 use Rattle.std.specs.BTreeMap.{is_at}
 use Rattle.std.proofs.lemmas.Bool.{eqb-true, and_parts}
-use Rattle.adr_stamp.specs.Order.{identifier_order}
-use Rattle.adr_vector.specs.Vector.{first_gap}
-use Rattle.adr_vector.specs.declared.mark.Mark.{Mark}
-use Rattle.adr_vector.proofs.Cursors.{same_from_test}
-use Rattle.adr_vector.proofs.Comparing.{everywhere_from_at_most}
+use Rattle.adr_values.specs.Order.{identifier_order}
+use Rattle.adr_values.specs.Vector.{first_gap}
+use Rattle.adr_values.specs.declared.mark.Mark.{Mark}
+use Rattle.adr_values.proofs.Cursors.{same_from_test}
+use Rattle.adr_values.proofs.Comparing.{everywhere_from_at_most}
 use Rattle.adr_call.specs.declared.refusal.TakeRefusal.TheVariants.{Stale, VectorBehind, SchemaMismatch}
 use Rattle.adr_model.specs.Update.{Identifier, same_identifier}
 use Rattle.adr_model.specs.Member.{Each}

@@ -2,10 +2,10 @@
 use Rattle.std.proofs.Common.{◌≡◌, ℕ, ◌≤◌, ◌+◌, List, [], ◌∷◌, ◌++◌, Bool, true, false, cond, refl, sym, ap, ◌∙◌, subst, map, fold, length, max, arith}
 use Rattle.std.specs.Ordering.{is_eq}
 use Rattle.std.proofs.lemmas.List.Sums.{fold-append}
-use Rattle.adr_stamp.specs.Order.{identifier_order}
-use Rattle.adr_vector.specs.Vector.{Cursors, at, raised}
-use Rattle.adr_vector.proofs.Cursors.{IsRising, FromOne, same_cursors}
-use Rattle.adr_vector.proofs.Joining.{at-raised, rising-raised, from_one-raised}
+use Rattle.adr_values.specs.Order.{identifier_order}
+use Rattle.adr_values.specs.Vector.{Cursors, at, raised}
+use Rattle.adr_values.proofs.Cursors.{IsRising, FromOne, same_cursors}
+use Rattle.adr_values.proofs.Joining.{at-raised, rising-raised, from_one-raised}
 use Rattle.adr_model.specs.Update.{Identifier}
 use Rattle.adr_model.specs.Store.{Held, Normal, State}
 use Rattle.adr_model.specs.Change.{Written, put, held_of, rows_after, after}

@@ -1,11 +1,11 @@
 -- A row of an item that is reflected and not covered isn't written.
 use Rattle.std.proofs.Common.{◌≡◌, inl, inr, List, [], Bool, true, false, cond, refl, sym, subst, filter, not, ◌&&◌, ◌||◌}
 use Rattle.std.proofs.lemmas.Bool.{both_ways, and_parts}
-use Rattle.adr_stamp.specs.declared.Oid.{Oid}
-use Rattle.adr_stamp.specs.declared.LinkKey.{LinkKey}
-use Rattle.adr_stamp.specs.declared.Unit.{Unit as Named}
-use Rattle.adr_stamp.specs.declared.Unit.TheVariants.{Object, Link}
-use Rattle.adr_vector.specs.Vector.{at}
+use Rattle.adr_values.specs.declared.stamp.Oid.{Oid}
+use Rattle.adr_values.specs.declared.stamp.LinkKey.{LinkKey}
+use Rattle.adr_values.specs.declared.stamp.Unit.{Unit as Named}
+use Rattle.adr_values.specs.declared.stamp.Unit.TheVariants.{Object, Link}
+use Rattle.adr_values.specs.Vector.{at}
 use Rattle.adr_model.specs.Member.{Member, Each}
 use Rattle.adr_model.specs.Update.{LinkOf, Update, ends, class_attr, deleted_attr}
 use Rattle.adr_model.specs.Reflects.{Covers, CoversBirth, IsDeath, HoldsAtLeast, HoldsObject, IsTombstoned, Buried, Reflects}

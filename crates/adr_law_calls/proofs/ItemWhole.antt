@@ -4,17 +4,17 @@ use Rattle.std.specs.List.{list_any}
 use Rattle.std.specs.Bool.{then_some}
 use Rattle.std.specs.Option.{option_and_then, option_or}
 use Rattle.std.proofs.lemmas.Bool.{eq-eqb, both_ways}
-use Rattle.adr_stamp.specs.declared.Oid.{Oid}
-use Rattle.adr_stamp.specs.declared.LinkKey.{LinkKey}
-use Rattle.adr_stamp.specs.declared.Unit.{Unit as Named}
-use Rattle.adr_stamp.specs.declared.Unit.TheVariants.{Object, Link}
-use Rattle.adr_schema.specs.declared.content.Content.TheVariants.{Class}
-use Rattle.adr_schema.specs.Numbered.{numbered}
-use Rattle.adr_schema.specs.Table.{has, must_of, class_at}
-use Rattle.adr_vector.specs.Vector.{at}
+use Rattle.adr_values.specs.declared.stamp.Oid.{Oid}
+use Rattle.adr_values.specs.declared.stamp.LinkKey.{LinkKey}
+use Rattle.adr_values.specs.declared.stamp.Unit.{Unit as Named}
+use Rattle.adr_values.specs.declared.stamp.Unit.TheVariants.{Object, Link}
+use Rattle.adr_values.specs.declared.content.Content.TheVariants.{Class}
+use Rattle.adr_values.specs.Numbered.{numbered}
+use Rattle.adr_values.specs.Table.{has, must_of, class_at}
+use Rattle.adr_values.specs.Vector.{at}
 use Rattle.adr_call.specs.declared.refusal.TakeRefusal.TheVariants.{Incomplete}
 use Rattle.adr_model.specs.Member.{Member, Each}
-use Rattle.adr_failure.specs.First.{first_of}
+use Rattle.adr_values.specs.First.{first_of}
 use Rattle.adr_model.specs.Update.{RowOf, Update, Said, Holds, class_attr, name_attr, deleted_attr}
 use Rattle.adr_model.specs.Reflects.{CoversBirth, IsDeathOf, HoldsObject, IsTombstoned}
 use Rattle.adr_model.specs.Store.{Held, State, updates_of, row_held}

@@ -1,6 +1,6 @@
 -- What holds after the items of a reply.
 use Rattle.std.proofs.Common.{inl, inr, ℕ, ◌≤◌, List, [], ◌∷◌, refl, subst, fold, arith, max, length}
-use Rattle.adr_schema.specs.Numbered.{numbered}
+use Rattle.adr_values.specs.Numbered.{numbered}
 use Rattle.adr_model.specs.Member.{Member, Each}
 use Rattle.adr_model.specs.Update.{Update}
 use Rattle.adr_model.specs.Reflects.{knowledge_of, Reflects}

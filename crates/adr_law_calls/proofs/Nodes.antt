@@ -2,9 +2,9 @@
 use Rattle.std.proofs.Common.{◌≡◌, inl, inr, ℕ, zero, suc, List, [], ◌∷◌, true, false, Option, Some, None, is_none, not, refl, sym, ap, ◌∙◌, subst, arith}
 use Rattle.std.specs.List.{list_all}
 use Rattle.std.specs.Option.{option_map_or}
-use Rattle.adr_stamp.specs.declared.Oid.{Oid}
-use Rattle.adr_schema.specs.Table.{Table}
-use Rattle.adr_schema.specs.declared.content.Content.TheVariants.{Class, Name, Values}
+use Rattle.adr_values.specs.declared.stamp.Oid.{Oid}
+use Rattle.adr_values.specs.Table.{Table}
+use Rattle.adr_values.specs.declared.content.Content.TheVariants.{Class, Name, Values}
 use Rattle.adr_model.specs.Member.{Member, Each}
 use Rattle.adr_model.specs.Update.{Identifier, RowOf, Holds, Update, ends, class_attr, name_attr, same_object, same_identifier}
 use Rattle.adr_model.specs.Winner.{winners}

@@ -3,13 +3,13 @@ use Rattle.std.proofs.Common.{◌≡◌, inl, inr, ℕ, ◌≤◌, [], ◌∷◌
 use Rattle.std.specs.Prelude.{nat_lt}
 use Rattle.std.specs.Bool.{then_some}
 use Rattle.std.proofs.lemmas.Bool.{ltb-false}
-use Rattle.adr_schema.proofs.ExactCalls.{not_then}
-use Rattle.adr_vector.specs.Vector.{cursor_limit}
+use Rattle.adr_values.proofs.ExactCalls.{not_then}
+use Rattle.adr_values.specs.Vector.{cursor_limit}
 use Rattle.adr_call.specs.declared.refusal.Table.TheVariants.{Objects, Links, Cursors as CursorTable, Marks}
 use Rattle.adr_call.specs.declared.refusal.TakeRefusal.{TakeRefusal}
 use Rattle.adr_call.specs.declared.refusal.TakeRefusal.TheVariants.{Quarantined, NotMine, RolledBack, UsnLimit, Full}
 use Rattle.adr_model.specs.Member.{Each}
-use Rattle.adr_failure.specs.First.{first_of}
+use Rattle.adr_values.specs.First.{first_of}
 use Rattle.adr_model.specs.Update.{same_identifier}
 use Rattle.adr_model.specs.Store.{Mode, Normal, Quarantined as IsQuarantined, State}
 use Rattle.adr_model.specs.Change.{Change}

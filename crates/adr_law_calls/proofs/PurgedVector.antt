@@ -1,10 +1,10 @@
 -- The vector of what is purged after a collection: it stays within what was seen.
 use Rattle.std.proofs.Common.{◌≡◌, List, true, max, arith}
-use Rattle.adr_stamp.specs.declared.Oid.{Oid}
-use Rattle.adr_vector.specs.Vector.{Cursors, IsVector, at, at_most, joined}
-use Rattle.adr_vector.proofs.Cursors.{IsRising, FromOne}
-use Rattle.adr_vector.proofs.Comparing.{everywhere_from_at_most}
-use Rattle.adr_vector.proofs.Joining.{at-joined, rising-joined, from_one-joined}
+use Rattle.adr_values.specs.declared.stamp.Oid.{Oid}
+use Rattle.adr_values.specs.Vector.{Cursors, IsVector, at, at_most, joined}
+use Rattle.adr_values.proofs.Cursors.{IsRising, FromOne}
+use Rattle.adr_values.proofs.Comparing.{everywhere_from_at_most}
+use Rattle.adr_values.proofs.Joining.{at-joined, rising-joined, from_one-joined}
 use Rattle.adr_model.specs.Member.{Each}
 use Rattle.adr_model.specs.Update.{Identifier, Update}
 use Rattle.adr_model.specs.Reflects.{AtMost, Covers, CoversBirth}

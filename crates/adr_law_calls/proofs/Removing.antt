@@ -1,7 +1,7 @@
 -- Which rows stand after objects were removed: those of no such object. Each unit that stands is whole.
 use Rattle.std.proofs.Common.{◌≡◌, ◌⊎◌, inl, inr, ⊎_elim, ℕ, List, [], ◌∷◌, Bool, true, false, refl, sym, ap, ◌∙◌, subst, fold, not}
 use Rattle.std.proofs.lemmas.Bool.{not-true}
-use Rattle.adr_stamp.specs.declared.Oid.{Oid}
+use Rattle.adr_values.specs.declared.stamp.Oid.{Oid}
 use Rattle.adr_model.specs.Member.{Member, Each}
 use Rattle.adr_model.specs.Update.{Key, RowOf, Update, unit_of}
 use Rattle.adr_model.specs.Reflects.{HoldsObject}

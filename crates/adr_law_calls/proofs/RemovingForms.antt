@@ -1,8 +1,8 @@
 -- What is formed stays so where objects are removed whole.
 use Rattle.std.proofs.Common.{◌≡◌, ℕ, List, subst}
-use Rattle.adr_stamp.specs.declared.Oid.{Oid}
-use Rattle.adr_stamp.specs.declared.LinkKey.{LinkKey}
-use Rattle.adr_schema.specs.Table.{Table}
+use Rattle.adr_values.specs.declared.stamp.Oid.{Oid}
+use Rattle.adr_values.specs.declared.stamp.LinkKey.{LinkKey}
+use Rattle.adr_values.specs.Table.{Table}
 use Rattle.adr_model.specs.Member.{Member}
 use Rattle.adr_model.specs.Update.{RowOf, Update}
 use Rattle.adr_model.specs.Reflects.{HoldsObject, IsTombstoned}

@@ -1,6 +1,6 @@
 -- There are no more objects and no more links after objects were removed.
 use Rattle.std.proofs.Common.{◌≤◌, List, length}
-use Rattle.adr_stamp.specs.declared.Oid.{Oid}
+use Rattle.adr_values.specs.declared.stamp.Oid.{Oid}
 use Rattle.adr_model.specs.Live.{objects_of}
 use Rattle.adr_model.specs.Store.{Held, updates_of}
 use Rattle.adr_model.specs.Write.{links_in}

@@ -7,24 +7,24 @@ use Rattle.std.specs.Option.{option_map, option_and_then}
 use Rattle.std.specs.declared.cmp.Ordering.TheVariants.{Less, Equal}
 use Rattle.std.proofs.lemmas.Cmp.{tied_itself}
 use Rattle.std.proofs.lemmas.Bool.{ltb-false}
-use Rattle.adr_stamp.specs.Order.{link_order}
-use Rattle.adr_stamp.specs.contracts.LinkKeyOrd.TheImpl.Laws.{total-law as links_total}
-use Rattle.adr_stamp.proofs.Exact.{exact_links}
-use Rattle.adr_stamp.specs.declared.Oid.{Oid}
-use Rattle.adr_stamp.specs.declared.LinkKey.{LinkKey}
-use Rattle.adr_stamp.specs.declared.Unit.TheVariants.{Object, Link}
-use Rattle.adr_schema.specs.declared.table.Kind.{Kind}
-use Rattle.adr_schema.specs.declared.table.Kind.TheVariants.{Reserved, Plain, Forward, Back}
-use Rattle.adr_schema.specs.declared.refusal.SchemaRefusal.{SchemaRefusal}
-use Rattle.adr_schema.specs.declared.refusal.SchemaRefusal.TheVariants.{BadName}
-use Rattle.adr_schema.specs.declared.content.Content.TheVariants.{Class}
-use Rattle.adr_schema.specs.Table.{kind_at, is_forward}
-use Rattle.adr_schema.specs.Schemas.{newest}
-use Rattle.adr_schema.specs.Numbered.{numbered}
-use Rattle.adr_schema.specs.Names.{name_fault}
-use Rattle.adr_schema.specs.Rules.{link_refusal as schema_link_refusal}
-use Rattle.adr_schema.proofs.Extending.{schemas_grow}
-use Rattle.adr_vector.specs.Vector.{at, raised, cursor_limit}
+use Rattle.adr_values.specs.Order.{link_order}
+use Rattle.adr_values.specs.contracts.stamp.LinkKeyOrd.TheImpl.Laws.{total-law as links_total}
+use Rattle.adr_values.proofs.ExactOrders.{exact_links}
+use Rattle.adr_values.specs.declared.stamp.Oid.{Oid}
+use Rattle.adr_values.specs.declared.stamp.LinkKey.{LinkKey}
+use Rattle.adr_values.specs.declared.stamp.Unit.TheVariants.{Object, Link}
+use Rattle.adr_values.specs.declared.table.Kind.{Kind}
+use Rattle.adr_values.specs.declared.table.Kind.TheVariants.{Reserved, Plain, Forward, Back}
+use Rattle.adr_values.specs.declared.refusal.SchemaRefusal.{SchemaRefusal}
+use Rattle.adr_values.specs.declared.refusal.SchemaRefusal.TheVariants.{BadName}
+use Rattle.adr_values.specs.declared.content.Content.TheVariants.{Class}
+use Rattle.adr_values.specs.Table.{kind_at, is_forward}
+use Rattle.adr_values.specs.Schemas.{newest}
+use Rattle.adr_values.specs.Numbered.{numbered}
+use Rattle.adr_values.specs.Names.{name_fault}
+use Rattle.adr_values.specs.Rules.{link_refusal as schema_link_refusal}
+use Rattle.adr_values.proofs.Extending.{schemas_grow}
+use Rattle.adr_values.specs.Vector.{at, raised, cursor_limit}
 use Rattle.adr_call.specs.declared.refusal.WriteRefusal.{WriteRefusal}
 use Rattle.adr_call.specs.declared.refusal.WriteRefusal.TheVariants.{Schema as BreaksSchema, SchemaMismatch, NotInImage, BirthThere}
 use Rattle.adr_call.specs.declared.refusal.Table.TheVariants.{Objects, Links, Cursors}

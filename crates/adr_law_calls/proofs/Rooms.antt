@@ -1,10 +1,10 @@
 -- No table is over its limit behind a write.
 use Rattle.std.proofs.Common.{◌≡◌, ◌⊎◌, inl, inr, ⊎_elim, ℕ, ◌≤◌, ◌+◌, List, ◌∷◌, refl, sym, subst, length, arith}
-use Rattle.adr_stamp.specs.declared.Oid.{Oid}
-use Rattle.adr_stamp.specs.declared.LinkKey.{LinkKey}
-use Rattle.adr_stamp.specs.declared.Unit.{Unit as Named}
-use Rattle.adr_stamp.specs.declared.Unit.TheVariants.{Object, Link}
-use Rattle.adr_vector.specs.Vector.{raised, cursor_limit}
+use Rattle.adr_values.specs.declared.stamp.Oid.{Oid}
+use Rattle.adr_values.specs.declared.stamp.LinkKey.{LinkKey}
+use Rattle.adr_values.specs.declared.stamp.Unit.{Unit as Named}
+use Rattle.adr_values.specs.declared.stamp.Unit.TheVariants.{Object, Link}
+use Rattle.adr_values.specs.Vector.{raised, cursor_limit}
 use Rattle.adr_model.specs.Member.{Member, Each}
 use Rattle.adr_model.specs.Update.{RowOf, LinkOf, Update, class_attr}
 use Rattle.adr_model.specs.Live.{objects_of}

@@ -3,17 +3,17 @@ use Rattle.std.proofs.Common.{◌≡◌, inl, inr, ℕ, zero, suc, List, [], ◌
 use Rattle.std.specs.Prelude.{is_none}
 use Rattle.std.specs.Bool.{then_some}
 use Rattle.std.specs.Option.{option_map}
-use Rattle.adr_stamp.specs.declared.Oid.{Oid}
-use Rattle.adr_stamp.specs.declared.LinkKey.{LinkKey}
-use Rattle.adr_stamp.specs.declared.LinkStamp.{LinkStamp}
-use Rattle.adr_schema.specs.declared.content.Content.TheVariants.{Class}
-use Rattle.adr_schema.specs.declared.refusal.SchemaRefusal.TheVariants.{UnknownClass, BadName, NotLink}
-use Rattle.adr_schema.specs.Table.{Table, Class as TableClass, class_at, kind_at, is_forward}
-use Rattle.adr_schema.specs.Rules.{class_refusal}
-use Rattle.adr_schema.proofs.ExactRows.{not_refused_held}
+use Rattle.adr_values.specs.declared.stamp.Oid.{Oid}
+use Rattle.adr_values.specs.declared.stamp.LinkKey.{LinkKey}
+use Rattle.adr_values.specs.declared.stamp.LinkStamp.{LinkStamp}
+use Rattle.adr_values.specs.declared.content.Content.TheVariants.{Class}
+use Rattle.adr_values.specs.declared.refusal.SchemaRefusal.TheVariants.{UnknownClass, BadName, NotLink}
+use Rattle.adr_values.specs.Table.{Table, Class as TableClass, class_at, kind_at, is_forward}
+use Rattle.adr_values.specs.Rules.{class_refusal}
+use Rattle.adr_values.proofs.ExactRows.{not_refused_held}
 use Rattle.adr_call.specs.declared.refusal.ItemFault.TheVariants.{WrongBirth}
 use Rattle.adr_model.specs.Member.{Each}
-use Rattle.adr_failure.specs.First.{first_of}
+use Rattle.adr_values.specs.First.{first_of}
 use Rattle.adr_model.specs.Update.{RowOf, LinkOf, Update, Said, Holds}
 use Rattle.adr_model.specs.Take.{is_birth, broken, row_fault}
 use Rattle.adr_law_steps.specs.Forms.{IsWellSaid}

@@ -1,11 +1,11 @@
 -- What rows of an object say: a class with its birth, a name, a death, or values that may be held.
 use Rattle.std.proofs.Common.{◌≡◌, ℕ, ◌<◌, List, true, None, sym, ◌∙◌, subst, arith}
-use Rattle.adr_stamp.specs.declared.Oid.{Oid}
-use Rattle.adr_schema.specs.declared.content.Value.{Value as Datum}
-use Rattle.adr_schema.specs.declared.content.Content.TheVariants.{Class, Name, Dead, Values}
-use Rattle.adr_schema.specs.Table.{Table}
-use Rattle.adr_schema.specs.Allowed.{MayBeHeld}
-use Rattle.adr_schema.specs.Names.{name_fault}
+use Rattle.adr_values.specs.declared.stamp.Oid.{Oid}
+use Rattle.adr_values.specs.declared.content.Value.{Value as Datum}
+use Rattle.adr_values.specs.declared.content.Content.TheVariants.{Class, Name, Dead, Values}
+use Rattle.adr_values.specs.Table.{Table}
+use Rattle.adr_values.specs.Allowed.{MayBeHeld}
+use Rattle.adr_values.specs.Names.{name_fault}
 use Rattle.adr_model.specs.Member.{Each}
 use Rattle.adr_model.specs.Update.{Identifier, RowOf, Holds, Update, class_attr, name_attr, deleted_attr}
 use Rattle.adr_model.specs.Take.{is_birth}

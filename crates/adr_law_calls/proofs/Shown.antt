@@ -2,13 +2,13 @@
 -- must have. And the same by a schema that allows no less.
 use Rattle.std.proofs.Common.{◌≡◌, ◌≢◌, inl, inr, ℕ, zero, suc, ◌<◌, List, [], ◌∷◌, Bool, true, false, ◌&&◌, Option, Some, None, IsSome, is_none, unwrap_or, refl, sym, ap, ◌∙◌, subst, if◌then◌else◌, arith}
 use Rattle.std.specs.List.{list_all}
-use Rattle.adr_stamp.specs.declared.Oid.{Oid}
-use Rattle.adr_schema.specs.declared.content.Value.{Value as Datum}
-use Rattle.adr_schema.specs.declared.content.Content.TheVariants.{Class, Name, Dead, Values}
-use Rattle.adr_schema.specs.Table.{Table, class_at, must_of, has}
-use Rattle.adr_schema.specs.Allowed.{IsAllowed, MayBeHeld}
-use Rattle.adr_schema.specs.Assignments.{Given}
-use Rattle.adr_schema.specs.Extends.{Extends}
+use Rattle.adr_values.specs.declared.stamp.Oid.{Oid}
+use Rattle.adr_values.specs.declared.content.Value.{Value as Datum}
+use Rattle.adr_values.specs.declared.content.Content.TheVariants.{Class, Name, Dead, Values}
+use Rattle.adr_values.specs.Table.{Table, class_at, must_of, has}
+use Rattle.adr_values.specs.Allowed.{IsAllowed, MayBeHeld}
+use Rattle.adr_values.specs.Assignments.{Given}
+use Rattle.adr_values.specs.Extends.{Extends}
 use Rattle.adr_call.specs.declared.directory.Entry.{Entry}
 use Rattle.adr_model.specs.Member.{Member, Each}
 use Rattle.adr_model.specs.Update.{Identifier, Key, RowOf, LinkOf, Said, Holds, IsPresent, Update, ends, same_identifier, same_object, class_attr, deleted_attr}

@@ -1,6 +1,6 @@
 -- Removing dead objects whole, and covering their births and deaths by the purged vector, loses nothing that was taken.
 use Rattle.std.proofs.Common.{◌≡◌, ◌⊎◌, inl, inr, ⊎_elim, ℕ, List, true, map, refl, sym, ap, ◌∙◌, subst, arith}
-use Rattle.adr_stamp.specs.declared.Oid.{Oid}
+use Rattle.adr_values.specs.declared.stamp.Oid.{Oid}
 use Rattle.adr_model.specs.Member.{Member, Each}
 use Rattle.adr_model.specs.Update.{Update, RowOf, ends, inv_of, deleted_attr}
 use Rattle.adr_model.specs.Reflects.{Numbers, Covers, CoversBirth, AtMost, Knowledge, HoldsAtLeast, HoldsObject, IsTombstoned, IsDeathOf, IsPurged}

@@ -1,8 +1,8 @@
 -- A row that is written is above the one of its key that is held.
 use Rattle.std.proofs.Common.{◌≡◌, inl, inr, ℕ, ◌<◌, ◌+◌, List, [], ◌∷◌, Option, Some, sym, ap, ◌∙◌, subst, arith}
 use Rattle.std.specs.Option.{option_map_or}
-use Rattle.adr_stamp.specs.declared.Oid.{Oid}
-use Rattle.adr_stamp.specs.declared.Unit.TheVariants.{Object}
+use Rattle.adr_values.specs.declared.stamp.Oid.{Oid}
+use Rattle.adr_values.specs.declared.stamp.Unit.TheVariants.{Object}
 use Rattle.adr_model.specs.Member.{Member, Each}
 use Rattle.adr_model.specs.Update.{Key, Said, Update, unit_of, same_key}
 use Rattle.adr_model.specs.Reflects.{Numbers, Supersedes, HoldsObject}

@@ -2,8 +2,8 @@
 use Rattle.std.proofs.Common.{◌≡◌, ◌⊎◌, inl, inr, ⊎_elim, List, Bool, true, false, cond, refl, sym, ap, subst, not, ◌||◌, ◌&&◌, filter}
 use Rattle.std.proofs.lemmas.Bool.{eqb-true, eq-eqb, both_ways, and_parts, or_parts, not-true, cases_Bool, or_cases}
 use Rattle.std.proofs.Common.{ℕ}
-use Rattle.adr_stamp.specs.declared.Oid.{Oid}
-use Rattle.adr_vector.specs.Vector.{Cursors, at}
+use Rattle.adr_values.specs.declared.stamp.Oid.{Oid}
+use Rattle.adr_values.specs.Vector.{Cursors, at}
 use Rattle.adr_model.specs.Member.{Member, Each}
 use Rattle.adr_model.specs.Update.{Key, RowOf, LinkOf, Update, deleted_attr}
 use Rattle.adr_model.specs.Reflects.{CoversBirth, IsDeath, HoldsObject, IsTombstoned}

@@ -1,12 +1,12 @@
 -- A reply that passes leaves a formed state, where its mark and its vector are in order and the rows stay formed.
 use Rattle.std.proofs.Common.{◌≡◌, ◌≤◌, [], Option, Some, None, unwrap_or, refl, sym, subst, arith, length}
 use Rattle.std.specs.Option.{option_map_or}
-use Rattle.adr_schema.specs.Numbered.{numbered}
-use Rattle.adr_vector.specs.Vector.{Cursors, IsVector, at, joined}
-use Rattle.adr_vector.specs.Times.{AreTimesOf}
-use Rattle.adr_vector.proofs.Moments.{times_join}
-use Rattle.adr_vector.proofs.Comparing.{everywhere_from_at_most, at_most_from_everywhere}
-use Rattle.adr_vector.proofs.Joining.{at-joined, raised_here, rising-raised, from_one-raised, rising-joined, from_one-joined}
+use Rattle.adr_values.specs.Numbered.{numbered}
+use Rattle.adr_values.specs.Vector.{Cursors, IsVector, at, joined}
+use Rattle.adr_values.specs.Times.{AreTimesOf}
+use Rattle.adr_values.proofs.Moments.{times_join}
+use Rattle.adr_values.proofs.Comparing.{everywhere_from_at_most, at_most_from_everywhere}
+use Rattle.adr_values.proofs.Joining.{at-joined, raised_here, rising-raised, from_one-raised, rising-joined, from_one-joined}
 use Rattle.adr_model.specs.Member.{Each}
 use Rattle.adr_model.specs.Live.{objects_of}
 use Rattle.adr_model.specs.Reflects.{AtMost}

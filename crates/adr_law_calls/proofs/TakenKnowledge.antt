@@ -4,12 +4,12 @@ use Rattle.std.specs.Option.{IfSome}
 use Rattle.std.specs.Ordering.{is_eq}
 use Rattle.std.specs.List.Sorted.{IsStrictlySortedBy}
 use Rattle.std.proofs.lemmas.Bool.Decides.{leb_tells}
-use Rattle.adr_stamp.specs.Order.{identifier_order}
-use Rattle.adr_vector.specs.Vector.{Cursors, IsVector, at, joined}
-use Rattle.adr_vector.specs.Times.{AreTimesOf}
-use Rattle.adr_vector.proofs.Joining.{at-raised, at-joined}
-use Rattle.adr_vector.proofs.Moments.{no_times}
-use Rattle.adr_vector.proofs.Cursors.{same_from_test}
+use Rattle.adr_values.specs.Order.{identifier_order}
+use Rattle.adr_values.specs.Vector.{Cursors, IsVector, at, joined}
+use Rattle.adr_values.specs.Times.{AreTimesOf}
+use Rattle.adr_values.proofs.Joining.{at-raised, at-joined}
+use Rattle.adr_values.proofs.Moments.{no_times}
+use Rattle.adr_values.proofs.Cursors.{same_from_test}
 use Rattle.adr_model.specs.Member.{Each}
 use Rattle.adr_model.specs.Update.{Identifier, Update, inv_of, usn_of}
 use Rattle.adr_model.specs.Reflects.{Covers, AtMost, Knowledge, knowledge_of, Reflects}

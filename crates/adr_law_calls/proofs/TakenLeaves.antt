@@ -1,8 +1,8 @@
 -- What a reply that is taken leaves: a formed and closed store, and a change that follows in its log.
 use Rattle.std.proofs.Common.{◌≡◌, ◌⊎◌, inl, inr, ⊎_elim, [], refl, sym, subst, arith, Ok}
-use Rattle.adr_stamp.specs.declared.Oid.{Oid}
-use Rattle.adr_schema.specs.Numbered.{numbered}
-use Rattle.adr_vector.specs.Vector.{at}
+use Rattle.adr_values.specs.declared.stamp.Oid.{Oid}
+use Rattle.adr_values.specs.Numbered.{numbered}
+use Rattle.adr_values.specs.Vector.{at}
 use Rattle.adr_model.specs.Member.{Member, Each}
 use Rattle.adr_model.specs.Update.{Update, ends}
 use Rattle.adr_model.specs.Reflects.{CoversBirth, HoldsObject, knowledge_of}

@@ -1,11 +1,11 @@
 -- An upgrade leaves a formed state, and a sound one: what a schema allows, schema 2 allows, and nothing else changes.
 use Rattle.std.proofs.Common.{◌≡◌, inl, inr, ⊎_elim, [], refl, sym, subst, arith, Ok}
-use Rattle.adr_schema.specs.Numbered.{numbered}
-use Rattle.adr_schema.proofs.Extending.{second_is_last}
-use Rattle.adr_vector.specs.Vector.{Cursors, IsVector, at}
-use Rattle.adr_vector.proofs.Comparing.{everywhere_from_at_most, at_most_from_everywhere}
-use Rattle.adr_vector.proofs.Joining.{raised_here}
-use Rattle.adr_vector.proofs.Moments.{times_stay}
+use Rattle.adr_values.specs.Numbered.{numbered}
+use Rattle.adr_values.proofs.Extending.{second_is_last}
+use Rattle.adr_values.specs.Vector.{Cursors, IsVector, at}
+use Rattle.adr_values.proofs.Comparing.{everywhere_from_at_most, at_most_from_everywhere}
+use Rattle.adr_values.proofs.Joining.{raised_here}
+use Rattle.adr_values.proofs.Moments.{times_stay}
 use Rattle.adr_model.specs.Reflects.{AtMost, CoversBirth, knowledge_of}
 use Rattle.adr_model.specs.Store.{State, updates_of}
 use Rattle.adr_model.specs.Change.{Change, after}

@@ -4,13 +4,13 @@ use Rattle.std.specs.List.{slice_get}
 use Rattle.std.specs.Ordering.{nat_cmp, is_eq}
 use Rattle.std.proofs.lemmas.Cmp.{nat_cmp_total}
 use Rattle.std.proofs.lemmas.Map.Lookups.{exact_unsigned}
-use Rattle.adr_schema.specs.declared.content.Value.{Value as Datum}
-use Rattle.adr_schema.specs.declared.table.Syntax.{Syntax}
-use Rattle.adr_schema.specs.declared.table.Kind.TheVariants.{Plain, Reserved}
-use Rattle.adr_schema.specs.Assignments.{Given, attributes, given}
-use Rattle.adr_schema.specs.Table.{Table, kind_at}
-use Rattle.adr_schema.specs.Schemas.{schema_1, schema_2}
-use Rattle.adr_schema.specs.Numbered.{numbered}
+use Rattle.adr_values.specs.declared.content.Value.{Value as Datum}
+use Rattle.adr_values.specs.declared.table.Syntax.{Syntax}
+use Rattle.adr_values.specs.declared.table.Kind.TheVariants.{Plain, Reserved}
+use Rattle.adr_values.specs.Assignments.{Given, attributes, given}
+use Rattle.adr_values.specs.Table.{Table, kind_at}
+use Rattle.adr_values.specs.Schemas.{schema_1, schema_2}
+use Rattle.adr_values.specs.Numbered.{numbered}
 use Rattle.adr_model.specs.Member.{Member, Each}
 use Rattle.adr_model.specs.Update.{deleted_attr}
 use Rattle.adr_model.specs.Given.{AreInOrder}

@@ -1,9 +1,9 @@
 -- A write of a formed state leaves a formed one.
 use Rattle.std.proofs.Common.{◌≡◌, ◌+◌, List, [], sym, ap, subst, fold, arith, append-nil}
-use Rattle.adr_vector.specs.Vector.{at}
-use Rattle.adr_vector.proofs.Comparing.{everywhere_from_at_most, at_most_from_everywhere}
-use Rattle.adr_vector.proofs.Joining.{raised_here}
-use Rattle.adr_vector.proofs.Moments.{times_stay}
+use Rattle.adr_values.specs.Vector.{at}
+use Rattle.adr_values.proofs.Comparing.{everywhere_from_at_most, at_most_from_everywhere}
+use Rattle.adr_values.proofs.Joining.{raised_here}
+use Rattle.adr_values.proofs.Moments.{times_stay}
 use Rattle.adr_model.specs.Store.{Held, State}
 use Rattle.adr_model.specs.Change.{Item, put, held_of, rows_after, after}
 use Rattle.adr_model.specs.Formed.{AreRising, IsFormedStore, IsFormed}

@@ -1,11 +1,11 @@
 -- Rows stay as the schema wants them behind a write, and links stay closed.
 use Rattle.std.proofs.Common.{◌≡◌, inl, inr, ⊎_elim, ℕ, ◌+◌, List, sym, ◌∙◌, subst}
-use Rattle.adr_stamp.specs.declared.LinkKey.{LinkKey}
-use Rattle.adr_stamp.specs.declared.Unit.{Unit as Named}
-use Rattle.adr_stamp.specs.declared.Unit.TheVariants.{Object, Link}
-use Rattle.adr_schema.specs.Numbered.{numbered}
-use Rattle.adr_schema.specs.declared.content.Content.TheVariants.{Class}
-use Rattle.adr_vector.specs.Vector.{at, raised}
+use Rattle.adr_values.specs.declared.stamp.LinkKey.{LinkKey}
+use Rattle.adr_values.specs.declared.stamp.Unit.{Unit as Named}
+use Rattle.adr_values.specs.declared.stamp.Unit.TheVariants.{Object, Link}
+use Rattle.adr_values.specs.Numbered.{numbered}
+use Rattle.adr_values.specs.declared.content.Content.TheVariants.{Class}
+use Rattle.adr_values.specs.Vector.{at, raised}
 use Rattle.adr_model.specs.Member.{Member, Each}
 use Rattle.adr_model.specs.Update.{LinkOf, Update, Holds, IsPresent, ends}
 use Rattle.adr_model.specs.Reflects.{Numbers, HoldsObject}

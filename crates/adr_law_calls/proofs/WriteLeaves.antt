@@ -1,9 +1,9 @@
 -- What a write leaves: nothing is lost, what is written is held, and the store is formed and closed.
 use Rattle.std.proofs.Common.{inl, ⊎_elim, ℕ, ◌+◌, List, [], ◌++◌, arith}
-use Rattle.adr_stamp.specs.declared.Unit.{Unit as Named}
-use Rattle.adr_schema.specs.Numbered.{numbered}
-use Rattle.adr_vector.specs.Vector.{IsVector, at, raised}
-use Rattle.adr_vector.proofs.Comparing.{everywhere_from_at_most}
+use Rattle.adr_values.specs.declared.stamp.Unit.{Unit as Named}
+use Rattle.adr_values.specs.Numbered.{numbered}
+use Rattle.adr_values.specs.Vector.{IsVector, at, raised}
+use Rattle.adr_values.proofs.Comparing.{everywhere_from_at_most}
 use Rattle.adr_model.specs.Member.{Member, Each}
 use Rattle.adr_model.specs.Update.{Update}
 use Rattle.adr_model.specs.Reflects.{Numbers, Covers, AtMost, Knowledge, knowledge_of, Reflects}

@@ -1,6 +1,6 @@
 -- Dead objects that may be collected, each with its death.
 use Rattle.std.specs.Prelude.{◌≡◌, List}
-use Rattle.adr_stamp.specs.declared.Oid.{Oid}
+use Rattle.adr_values.specs.declared.stamp.Oid.{Oid}
 use Rattle.adr_model.specs.Member.{Member}
 use Rattle.adr_model.specs.Update.{Update}
 use Rattle.adr_model.specs.Reflects.{Numbers, Covers, CoversBirth, IsDeathOf}

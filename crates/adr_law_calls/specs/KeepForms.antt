@@ -1,8 +1,8 @@
 -- What rows of one unit have to be so that all rows stay as the schema wants them behind them, whatever call puts them.
 use Rattle.std.specs.Prelude.{◌≡◌, ◌⊎◌, ℕ, List, true}
-use Rattle.adr_stamp.specs.declared.Unit.{Unit as Named}
-use Rattle.adr_stamp.specs.declared.Unit.TheVariants.{Object, Link}
-use Rattle.adr_schema.specs.Table.{Table, kind_at, is_forward}
+use Rattle.adr_values.specs.declared.stamp.Unit.{Unit as Named}
+use Rattle.adr_values.specs.declared.stamp.Unit.TheVariants.{Object, Link}
+use Rattle.adr_values.specs.Table.{Table, kind_at, is_forward}
 use Rattle.adr_model.specs.Member.{Each}
 use Rattle.adr_model.specs.Update.{Update, LinkOf, ends}
 use Rattle.adr_model.specs.Reflects.{Numbers, CoversBirth, HoldsObject, IsTombstoned}

@@ -1,8 +1,8 @@
 //! Taking a reply.
 
 ghost use Rattle.std.specs.Prelude.{◌≡◌, ◌≢◌, ◌⊎◌, ℕ, [], Ok, Err};
-ghost use Rattle.adr_stamp.specs.declared.Oid.{Oid};
-ghost use Rattle.adr_vector.specs.Vector.{at};
+ghost use Rattle.adr_values.specs.declared.stamp.Oid.{Oid};
+ghost use Rattle.adr_values.specs.Vector.{at};
 ghost use Rattle.adr_call.specs.declared.refusal.ItemFault.{ItemFault};
 ghost use Rattle.adr_call.specs.declared.refusal.TakeRefusal.TheVariants.{RolledBack, BadItem, Incomplete};
 ghost use Rattle.adr_model.specs.Member.{Member, Each};

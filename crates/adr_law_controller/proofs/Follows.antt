@@ -1,7 +1,7 @@
 -- What a controller commits can be recorded.
 use Rattle.std.proofs.Common.{◌≡◌, ◌∙◌, refl, ap, subst, ℕ, ◌<◌, ◌≤◌, ◌^◌, List, ◌∷◌, Bool, true, false, Option, Some, Result, Ok, Err, arith}
 use Rattle.std.specs.Bool.{then_some}
-use Rattle.adr_failure.specs.First.{first_of}
+use Rattle.adr_values.specs.First.{first_of}
 use Rattle.adr_call.specs.declared.write.Write.{Write as Asked}
 use Rattle.adr_call.specs.declared.refusal.ServeRefusal.{ServeRefusal}
 use Rattle.adr_call.specs.declared.refusal.ServeRefusal.TheVariants as serves

@@ -1,7 +1,7 @@
 -- A write that was answered by its USN was issued, under the identifier of its controller.
 use Rattle.std.proofs.Common.{◌≡◌, ◌≢◌, inl, ℕ, List, [], ◌∷◌, ◌++◌, ◌+◌, arith, Bool, cond, Option, Some, Result, Ok, Err, refl, sym, ap, subst, fold, map}
-use Rattle.adr_schema.specs.Assignments.{Given}
-use Rattle.adr_schema.specs.declared.content.Content.TheVariants.{Values}
+use Rattle.adr_values.specs.Assignments.{Given}
+use Rattle.adr_values.specs.declared.content.Content.TheVariants.{Values}
 use Rattle.adr_event.specs.declared.answer.Answer.{Answer}
 use Rattle.adr_event.specs.declared.event.Event.{Event}
 use Rattle.adr_event.specs.declared.event.Event.TheVariants as events

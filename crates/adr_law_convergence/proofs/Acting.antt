@@ -25,7 +25,7 @@ use Rattle.adr_law_knowledge.proofs.Refusing.{answered}
 use Rattle.adr_law_convergence.proofs.Reached.{within_case}
 use Rattle.adr_law_convergence.proofs.Replacing.{MayStand, replaced}
 use Rattle.adr_law_convergence.proofs.Moving.{HasMoved, stays_so, settles_so, start_moves, commit_moves}
-use Rattle.adr_vector.specs.Vector.{Cursors, IsVector}
+use Rattle.adr_values.specs.Vector.{Cursors, IsVector}
 use Rattle.adr_call.specs.declared.refusal.UpgradeRefusal.{UpgradeRefusal}
 use Rattle.adr_model.specs.Upgrade.{upgraded, upgrade_refusal, upgrade}
 use Rattle.adr_law_convergence.proofs.Traced.{changed_traced, brought_told}

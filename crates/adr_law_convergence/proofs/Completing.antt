@@ -2,12 +2,12 @@
 use Rattle.std.proofs.Common.{◌≡◌, ◌≢◌, ◌⊎◌, inl, inr, ⊎_elim, ℕ, zero, suc, ◌+◌, ◌<◌, ◌≤◌, List, [], ◌++◌, Bool, true, false, cond, Option, Some, None, is_none, unwrap_or, refl, sym, ap, ◌∙◌, subst, arith, max, filter, length}
 use Rattle.std.specs.Prelude.{codes, nat_lt}
 use Rattle.std.specs.Str.{bytes_eq}
-use Rattle.adr_vector.specs.Vector.{Cursors, at, joined}
-use Rattle.adr_vector.proofs.Joining.{at-joined, raised_elsewhere}
+use Rattle.adr_values.specs.Vector.{Cursors, at, joined}
+use Rattle.adr_values.proofs.Joining.{at-joined, raised_elsewhere}
 use Rattle.adr_event.specs.declared.answer.Answer.{Answer}
 use Rattle.adr_call.specs.declared.outcome.Outcome.{Outcome}
 use Rattle.adr_call.specs.declared.outcome.Outcome.TheVariants as outcomes
-use Rattle.adr_vector.specs.declared.mark.Mark.{Mark}
+use Rattle.adr_values.specs.declared.mark.Mark.{Mark}
 use Rattle.adr_model.specs.Member.{Member, Each}
 use Rattle.adr_model.specs.Update.{Identifier, Update}
 use Rattle.adr_model.specs.Reflects.{knowledge_of, Reflects}

@@ -1,6 +1,6 @@
 -- What a sound world says of the knowledge of each controller.
 use Rattle.std.proofs.Common.{◌≡◌, ◌≤◌, sym, ap, ◌∙◌, arith}
-use Rattle.adr_vector.specs.Vector.{at}
+use Rattle.adr_values.specs.Vector.{at}
 use Rattle.adr_model.specs.Member.{Member, Each}
 use Rattle.adr_model.specs.Update.{Update, inv_of, usn_of}
 use Rattle.adr_model.specs.Reflects.{Covers, knowledge_of}

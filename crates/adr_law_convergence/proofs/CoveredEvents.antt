@@ -1,6 +1,6 @@
 -- What was collected stays covered by every line that may happen and keeps it so.
 use Rattle.std.proofs.Common.{◌≡◌, ℕ, [], ◌∷◌, true, Some, sym, subst, List, Option, None}
-use Rattle.adr_vector.specs.Vector.{at_most}
+use Rattle.adr_values.specs.Vector.{at_most}
 use Rattle.adr_call.specs.declared.outcome.Outcome.{Outcome}
 use Rattle.adr_call.specs.declared.outcome.Outcome.TheVariants as outcomes
 use Rattle.adr_event.specs.declared.event.Event.{Event}

@@ -6,8 +6,8 @@ use Rattle.std.specs.declared.cmp.Ordering.{Ordering}
 use Rattle.std.specs.declared.cmp.Ordering.TheVariants.{Less, Equal, Greater}
 use Rattle.std.proofs.lemmas.Bool.{leb-true, le-leb, and_parts, and_from}
 use Rattle.std.proofs.lemmas.Map.Lookups.{exact_bytes}
-use Rattle.adr_stamp.specs.Order.{identifier_order}
-use Rattle.adr_vector.specs.Vector.{Cursors, at, covers, at_most, raised, joined}
+use Rattle.adr_values.specs.Order.{identifier_order}
+use Rattle.adr_values.specs.Vector.{Cursors, at, covers, at_most, raised, joined}
 use Rattle.adr_model.specs.Reflects.{AtMost}
 use Rattle.adr_law_knowledge.proofs.Raised.{raised_up}
 

@@ -6,11 +6,11 @@ use Rattle.std.proofs.lemmas.Map.Lookups.{exact_bytes}
 use Rattle.std.specs.Prelude.{nat_lt, length}
 use Rattle.std.proofs.lemmas.Bool.{and_parts, not-true, le-ltb, eq-eqb}
 use Rattle.std.proofs.lemmas.Bool.Decides.{nat_tests}
-use Rattle.adr_stamp.specs.Order.{identifier_order}
-use Rattle.adr_vector.specs.Vector.{at, at_most, first_gap, cursor_limit}
-use Rattle.adr_vector.specs.declared.mark.Mark.{Mark}
-use Rattle.adr_vector.proofs.Cursors.{test_itself}
-use Rattle.adr_vector.proofs.Comparing.{at_most_from_everywhere}
+use Rattle.adr_values.specs.Order.{identifier_order}
+use Rattle.adr_values.specs.Vector.{at, at_most, first_gap, cursor_limit}
+use Rattle.adr_values.specs.declared.mark.Mark.{Mark}
+use Rattle.adr_values.proofs.Cursors.{test_itself}
+use Rattle.adr_values.proofs.Comparing.{at_most_from_everywhere}
 use Rattle.adr_call.specs.declared.refusal.ServeRefusal.TheVariants as serves
 use Rattle.adr_call.specs.declared.refusal.Table.{Table}
 use Rattle.adr_call.specs.declared.refusal.Table.TheVariants.{Objects, Links, Marks, Cursors as CursorTable}
@@ -18,7 +18,7 @@ use Rattle.adr_call.specs.declared.refusal.TakeRefusal.{TakeRefusal}
 use Rattle.adr_call.specs.declared.refusal.TakeRefusal.TheVariants as takes
 use Rattle.adr_model.specs.Cycles.{pull_version}
 use Rattle.adr_model.specs.Member.{Member}
-use Rattle.adr_failure.specs.First.{first_of}
+use Rattle.adr_values.specs.First.{first_of}
 use Rattle.adr_model.specs.Refusing.{unless}
 use Rattle.adr_model.specs.Update.{Update, unit_of, same_identifier}
 use Rattle.adr_model.specs.Reflects.{Covers}

@@ -1,7 +1,7 @@
 -- Which outcomes are plain: no write is acknowledged, and no refusal is one that never comes in a sound world.
 use Rattle.std.proofs.Common.{◌≡◌, ℕ, Bool, true, false, not, ◌||◌, ◌==◌, refl, ap}
-use Rattle.adr_schema.specs.declared.refusal.SchemaRefusal.{SchemaRefusal}
-use Rattle.adr_schema.specs.declared.refusal.SchemaRefusal.TheVariants.{UnknownClass}
+use Rattle.adr_values.specs.declared.refusal.SchemaRefusal.{SchemaRefusal}
+use Rattle.adr_values.specs.declared.refusal.SchemaRefusal.TheVariants.{UnknownClass}
 use Rattle.adr_call.specs.declared.outcome.Outcome.{Outcome}
 use Rattle.adr_call.specs.declared.outcome.Outcome.TheVariants as outcomes
 use Rattle.adr_call.specs.declared.report.Report.{Report}

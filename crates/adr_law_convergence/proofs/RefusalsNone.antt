@@ -1,8 +1,8 @@
 -- Refusals that don't come in a sound world.
 use Rattle.std.proofs.Common.{◌≡◌, ◌≢◌, inl, List, refl, ap, ◌∙◌, ℕ, Bool, true, false, ◌||◌, ◌==◌, Option, Some, Err}
 use Rattle.std.proofs.lemmas.Bool.{or_parts, not-true}
-use Rattle.adr_stamp.specs.declared.Oid.{Oid}
-use Rattle.adr_vector.specs.Vector.{at_most}
+use Rattle.adr_values.specs.declared.stamp.Oid.{Oid}
+use Rattle.adr_values.specs.Vector.{at_most}
 use Rattle.adr_event.specs.declared.answer.Answer.{Answer}
 use Rattle.adr_call.specs.declared.outcome.Outcome.{Outcome}
 use Rattle.adr_call.specs.declared.outcome.Outcome.TheVariants as outcomes

@@ -1,6 +1,6 @@
 -- A request that covers what was collected isn't refused for its age.
 use Rattle.std.proofs.Common.{◌≡◌, Bool, true, false, Err, refl, ℕ}
-use Rattle.adr_vector.specs.Vector.{at_most}
+use Rattle.adr_values.specs.Vector.{at_most}
 use Rattle.adr_call.specs.declared.refusal.ServeRefusal.{ServeRefusal}
 use Rattle.adr_call.specs.declared.refusal.ServeRefusal.TheVariants.{RolledBack, TooOld}
 use Rattle.adr_model.specs.Store.{State}

@@ -1,8 +1,8 @@
 -- Times are told: what a change brings, and what a whole reply tells.
 use Rattle.std.proofs.Common.{◌≡◌, inl, ⊎_elim, ℕ, ◌≤◌, List, [], ◌∷◌, ◌++◌, Bool, true, false, not, ◌==◌, Option, Some, None, is_some, unwrap_or, refl, sym, ap, subst, filter, if◌then◌else◌, arith}
 use Rattle.std.specs.Prelude.{IfSome}
-use Rattle.adr_vector.specs.Vector.{Cursors, IsVector, at, joined}
-use Rattle.adr_vector.proofs.Joining.{at-joined}
+use Rattle.adr_values.specs.Vector.{Cursors, IsVector, at, joined}
+use Rattle.adr_values.proofs.Joining.{at-joined}
 use Rattle.adr_model.specs.Member.{Each}
 use Rattle.adr_model.specs.Update.{Identifier, same_identifier}
 use Rattle.adr_model.specs.Store.{PartnerMark, State}

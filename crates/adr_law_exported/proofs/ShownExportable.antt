@@ -2,7 +2,7 @@
 use Rattle.std.proofs.Common.{◌≡◌, ℕ, List, sym, subst, map}
 use Rattle.std.specs.Prelude.{All}
 use Rattle.std.proofs.lemmas.List.Elements.{All-from_recursion}
-use Rattle.adr_schema.specs.Numbered.{numbered}
+use Rattle.adr_values.specs.Numbered.{numbered}
 use Rattle.adr_call.specs.declared.directory.Entry.{Entry}
 use Rattle.adr_records.specs.Logged.{IsLogged}
 use Rattle.adr_model.specs.Member.{Member, Each}

@@ -1,15 +1,15 @@
 -- Where the forms after a change are asked of what it touches alone, they hold of all.
 use Rattle.std.proofs.Common.{◌≡◌, ◌⊎◌, inl, inr, ⊎_elim, ℕ, ◌≤◌, List, [], ◌∷◌, true, IsSome, refl, sym, ap, ◌∙◌, subst, map, arith}
-use Rattle.adr_stamp.specs.declared.Oid.{Oid}
-use Rattle.adr_stamp.specs.declared.LinkKey.{LinkKey}
-use Rattle.adr_stamp.specs.declared.Unit.TheVariants.{Object, Link}
-use Rattle.adr_schema.specs.Numbered.{numbered}
-use Rattle.adr_schema.specs.Table.{Table, class_at, kind_at, is_forward}
-use Rattle.adr_schema.specs.declared.content.Content.TheVariants.{Class}
-use Rattle.adr_vector.specs.Vector.{IsVector, at, joined}
-use Rattle.adr_vector.proofs.Cursors.{IsRising, FromOne}
-use Rattle.adr_vector.proofs.Comparing.{everywhere_from_at_most, at_most_from_everywhere}
-use Rattle.adr_vector.proofs.Joining.{at-joined, raised_here, rising-raised, from_one-raised, rising-joined, from_one-joined}
+use Rattle.adr_values.specs.declared.stamp.Oid.{Oid}
+use Rattle.adr_values.specs.declared.stamp.LinkKey.{LinkKey}
+use Rattle.adr_values.specs.declared.stamp.Unit.TheVariants.{Object, Link}
+use Rattle.adr_values.specs.Numbered.{numbered}
+use Rattle.adr_values.specs.Table.{Table, class_at, kind_at, is_forward}
+use Rattle.adr_values.specs.declared.content.Content.TheVariants.{Class}
+use Rattle.adr_values.specs.Vector.{IsVector, at, joined}
+use Rattle.adr_values.proofs.Cursors.{IsRising, FromOne}
+use Rattle.adr_values.proofs.Comparing.{everywhere_from_at_most, at_most_from_everywhere}
+use Rattle.adr_values.proofs.Joining.{at-joined, raised_here, rising-raised, from_one-raised, rising-joined, from_one-joined}
 use Rattle.adr_model.specs.Member.{Member, Each}
 use Rattle.adr_model.specs.Update.{Key, Update, LinkOf, RowOf, Holds, unit_of, class_attr}
 use Rattle.adr_model.specs.Reflects.{AtMost, HoldsObject}
@@ -32,7 +32,7 @@ use Rattle.adr_law_calls.proofs.RemovingSizes.{objects_fewer, links_fewer}
 use Rattle.adr_model.specs.Spelled.{IsSaidOfKey}
 use Rattle.adr_law_formed.specs.Follow.{AreWithinLimits, HasKnownClasses, CanFollow}
 use Rattle.adr_model.specs.Sound.{AreClassesKnown}
-use Rattle.adr_vector.proofs.Moments.{times_join}
+use Rattle.adr_values.proofs.Moments.{times_join}
 use Rattle.adr_law_formed.proofs.Still.{upgraded_follows}
 use Rattle.adr_law_formed.specs.Touched.{AreTouchedInForm, IsInForm, CanFollowByTouched}
 use Rattle.adr_law_formed.proofs.Passing.{IsUntouched, IsInOrder, ArePassed, all_pass}

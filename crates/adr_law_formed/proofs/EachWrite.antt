@@ -5,28 +5,28 @@ use Rattle.std.specs.List.{AllByRecursion}
 use Rattle.std.specs.List.Sorted.{IsStrictlySortedBy}
 use Rattle.std.specs.Ordering.{nat_cmp, ordering_then}
 use Rattle.std.specs.declared.cmp.Ordering.TheVariants.{Less, Equal}
-use Rattle.adr_stamp.specs.Order.{object_order}
-use Rattle.adr_stamp.specs.declared.Oid.{Oid}
-use Rattle.adr_stamp.specs.declared.Unit.TheVariants.{Object, Link}
-use Rattle.adr_schema.specs.Assignments.{Given, attributes}
-use Rattle.adr_schema.specs.declared.content.Content.{Content}
-use Rattle.adr_schema.specs.declared.content.Content.TheVariants.{Class, Name, Dead, Values}
-use Rattle.adr_schema.specs.declared.content.Value.{Value as Datum}
-use Rattle.adr_schema.specs.Numbered.{numbered}
-use Rattle.adr_schema.specs.Rules.{add_refusal as schema_add_refusal, modify_refusal as schema_modify_refusal, name_refusal as schema_name_refusal, link_refusal as schema_link_refusal}
+use Rattle.adr_values.specs.Order.{object_order}
+use Rattle.adr_values.specs.declared.stamp.Oid.{Oid}
+use Rattle.adr_values.specs.declared.stamp.Unit.TheVariants.{Object, Link}
+use Rattle.adr_values.specs.Assignments.{Given, attributes}
+use Rattle.adr_values.specs.declared.content.Content.{Content}
+use Rattle.adr_values.specs.declared.content.Content.TheVariants.{Class, Name, Dead, Values}
+use Rattle.adr_values.specs.declared.content.Value.{Value as Datum}
+use Rattle.adr_values.specs.Numbered.{numbered}
+use Rattle.adr_values.specs.Rules.{add_refusal as schema_add_refusal, modify_refusal as schema_modify_refusal, name_refusal as schema_name_refusal, link_refusal as schema_link_refusal}
 use Rattle.adr_call.specs.declared.refusal.WriteRefusal.{WriteRefusal}
 use Rattle.adr_call.specs.declared.refusal.WriteRefusal.TheVariants.{Schema as BreaksSchema, Quarantined, GuidThere, NameTaken, LinkThere, LinkNotThere}
 use Rattle.adr_call.specs.declared.refusal.Table.TheVariants.{Objects, Links}
 use Rattle.std.specs.Cmp.{nat_cmp_is}
 use Rattle.std.proofs.lemmas.Bool.{or_parts}
-use Rattle.adr_stamp.specs.declared.LinkKey.{LinkKey}
-use Rattle.adr_stamp.specs.declared.LinkStamp.{LinkStamp}
-use Rattle.adr_vector.proofs.Cursors.{test_itself}
+use Rattle.adr_values.specs.declared.stamp.LinkKey.{LinkKey}
+use Rattle.adr_values.specs.declared.stamp.LinkStamp.{LinkStamp}
+use Rattle.adr_values.proofs.Cursors.{test_itself}
 use Rattle.adr_model.specs.Place.{is_fixed}
 use Rattle.adr_model.specs.Shown.{name_holder}
 use Rattle.adr_model.specs.Live.{objects_of}
 use Rattle.adr_model.specs.Member.{Member, Each}
-use Rattle.adr_failure.specs.First.{first_of}
+use Rattle.adr_values.specs.First.{first_of}
 use Rattle.adr_model.specs.Update.{Identifier, Key, RowOf, LinkOf, Said, Holds, IsPresent, Update, key_order, is_older, class_attr, name_attr, deleted_attr}
 use Rattle.adr_model.specs.Reflects.{HoldsObject}
 use Rattle.adr_model.specs.Store.{Held, Normal, State, updates_of, row_held, Store}

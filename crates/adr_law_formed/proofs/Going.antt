@@ -1,8 +1,8 @@
 -- A change that has no mark, joins no vector and tells no times goes on from a state by what else it says.
 use Rattle.std.proofs.Common.{◌≡◌, ◌⊎◌, ◌≤◌, [], None}
-use Rattle.adr_schema.specs.Numbered.{numbered}
-use Rattle.adr_vector.specs.Vector.{IsVector}
-use Rattle.adr_vector.proofs.Moments.{no_times}
+use Rattle.adr_values.specs.Numbered.{numbered}
+use Rattle.adr_values.specs.Vector.{IsVector}
+use Rattle.adr_values.proofs.Moments.{no_times}
 use Rattle.adr_model.specs.Member.{Each}
 use Rattle.adr_model.specs.Store.{Normal, State}
 use Rattle.adr_model.specs.Change.{Change, held_of, rows_after, after}

@@ -5,22 +5,22 @@ use Rattle.std.specs.Bool.{then_some}
 use Rattle.std.specs.Option.{option_map, option_map_or, option_and_then, option_or}
 use Rattle.std.specs.List.Sorted.{IsStrictlySortedBy}
 use Rattle.std.proofs.lemmas.Bool.{and_parts, both_ways, not-true}
-use Rattle.adr_stamp.specs.declared.Oid.{Oid}
-use Rattle.adr_stamp.specs.declared.LinkKey.{LinkKey}
-use Rattle.adr_stamp.specs.declared.Unit.{Unit as Named}
-use Rattle.adr_stamp.specs.declared.Unit.TheVariants.{Object, Link}
-use Rattle.adr_schema.proofs.ExactCalls.{not_then}
-use Rattle.adr_schema.specs.declared.content.Content.{Content}
-use Rattle.adr_schema.specs.declared.content.Content.TheVariants.{Class, Name, Dead, Values}
-use Rattle.adr_schema.specs.declared.refusal.SchemaRefusal.TheVariants.{NotLink}
-use Rattle.adr_schema.specs.Numbered.{numbered}
-use Rattle.adr_schema.specs.Rules.{not_link_refusal}
-use Rattle.adr_schema.specs.Table.{Table, has, must_of, class_at, kind_at, is_forward}
-use Rattle.adr_vector.specs.Vector.{Cursors, at}
+use Rattle.adr_values.specs.declared.stamp.Oid.{Oid}
+use Rattle.adr_values.specs.declared.stamp.LinkKey.{LinkKey}
+use Rattle.adr_values.specs.declared.stamp.Unit.{Unit as Named}
+use Rattle.adr_values.specs.declared.stamp.Unit.TheVariants.{Object, Link}
+use Rattle.adr_values.proofs.ExactCalls.{not_then}
+use Rattle.adr_values.specs.declared.content.Content.{Content}
+use Rattle.adr_values.specs.declared.content.Content.TheVariants.{Class, Name, Dead, Values}
+use Rattle.adr_values.specs.declared.refusal.SchemaRefusal.TheVariants.{NotLink}
+use Rattle.adr_values.specs.Numbered.{numbered}
+use Rattle.adr_values.specs.Rules.{not_link_refusal}
+use Rattle.adr_values.specs.Table.{Table, has, must_of, class_at, kind_at, is_forward}
+use Rattle.adr_values.specs.Vector.{Cursors, at}
 use Rattle.adr_call.specs.declared.refusal.ItemFault.TheVariants.{Schema as BreaksSchema}
 use Rattle.adr_call.specs.declared.refusal.TakeRefusal.TheVariants.{BadItem, Incomplete}
 use Rattle.adr_model.specs.Member.{Member, Each}
-use Rattle.adr_failure.specs.First.{first_of}
+use Rattle.adr_values.specs.First.{first_of}
 use Rattle.adr_model.specs.Update.{RowOf, LinkOf, Update, Said, Holds, is_older, key_order, ends, class_attr, name_attr, deleted_attr}
 use Rattle.adr_model.specs.Reflects.{CoversBirth, IsDeath, IsDeathOf, HoldsObject, IsTombstoned}
 use Rattle.adr_model.specs.Store.{Held, updates_of, row_held}

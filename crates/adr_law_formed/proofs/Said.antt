@@ -2,18 +2,18 @@
 use Rattle.std.proofs.Common.{◌≡◌, inl, inr, ℕ, [], ◌∷◌, true, Option, Some, None, IsSome, refl, ap, ◌∙◌, subst, not}
 use Rattle.std.specs.Prelude.{is_none}
 use Rattle.std.specs.Bool.{then_some}
-use Rattle.adr_stamp.specs.declared.Oid.{Oid}
-use Rattle.adr_schema.specs.declared.content.Content.{Content}
-use Rattle.adr_schema.specs.declared.content.Content.TheVariants.{Class, Name, Dead, Values}
-use Rattle.adr_schema.specs.declared.refusal.SchemaRefusal.TheVariants.{UnknownClass, BadName}
-use Rattle.adr_schema.specs.Table.{Table, Class as TableClass, class_at}
-use Rattle.adr_schema.specs.Numbered.{numbered}
-use Rattle.adr_schema.specs.Rules.{class_refusal, name_refusal, row_refusal}
-use Rattle.adr_schema.specs.Names.{name_fault}
-use Rattle.adr_schema.specs.Allowed.{MayBeHeld}
-use Rattle.adr_schema.proofs.ExactRows.{may_be_held}
+use Rattle.adr_values.specs.declared.stamp.Oid.{Oid}
+use Rattle.adr_values.specs.declared.content.Content.{Content}
+use Rattle.adr_values.specs.declared.content.Content.TheVariants.{Class, Name, Dead, Values}
+use Rattle.adr_values.specs.declared.refusal.SchemaRefusal.TheVariants.{UnknownClass, BadName}
+use Rattle.adr_values.specs.Table.{Table, Class as TableClass, class_at}
+use Rattle.adr_values.specs.Numbered.{numbered}
+use Rattle.adr_values.specs.Rules.{class_refusal, name_refusal, row_refusal}
+use Rattle.adr_values.specs.Names.{name_fault}
+use Rattle.adr_values.specs.Allowed.{MayBeHeld}
+use Rattle.adr_values.proofs.ExactRows.{may_be_held}
 use Rattle.adr_call.specs.declared.refusal.ItemFault.TheVariants.{Schema as BreaksSchema, WrongBirth}
-use Rattle.adr_failure.specs.First.{first_of}
+use Rattle.adr_values.specs.First.{first_of}
 use Rattle.adr_model.specs.Update.{Key, RowOf, Said, Holds, IsPresent, Update, class_attr}
 use Rattle.adr_model.specs.Take.{is_birth, broken, row_fault}
 use Rattle.adr_law_steps.specs.Forms.{IsWellSaid}

@@ -4,14 +4,14 @@ use Rattle.std.specs.Prelude.{nat_le, nat_lt, not, if◌then◌else◌}
 use Rattle.std.specs.Bool.{then_some}
 use Rattle.std.specs.List.Sorted.{IsStrictlySortedBy}
 use Rattle.std.proofs.lemmas.Bool.{and_parts, leb-true, ltb-true, ltb-false, eqb-false}
-use Rattle.adr_stamp.specs.declared.Unit.{Unit as Named}
-use Rattle.adr_schema.proofs.ExactCalls.{not_then}
-use Rattle.adr_schema.specs.Numbered.{numbered}
-use Rattle.adr_schema.specs.Table.{Table}
-use Rattle.adr_vector.specs.Vector.{Cursors, IsVector, at}
-use Rattle.adr_vector.specs.Times.{AreTimesOf}
-use Rattle.adr_vector.proofs.Moments.{no_times, times_raise, times_filter}
-use Rattle.adr_vector.specs.declared.mark.Mark.{Mark}
+use Rattle.adr_values.specs.declared.stamp.Unit.{Unit as Named}
+use Rattle.adr_values.proofs.ExactCalls.{not_then}
+use Rattle.adr_values.specs.Numbered.{numbered}
+use Rattle.adr_values.specs.Table.{Table}
+use Rattle.adr_values.specs.Vector.{Cursors, IsVector, at}
+use Rattle.adr_values.specs.Times.{AreTimesOf}
+use Rattle.adr_values.proofs.Moments.{no_times, times_raise, times_filter}
+use Rattle.adr_values.specs.declared.mark.Mark.{Mark}
 use Rattle.adr_call.specs.declared.refusal.ServeRefusal.TheVariants.{BadMark, RolledBack}
 use Rattle.adr_model.specs.Member.{Member, Each}
 use Rattle.adr_model.specs.Update.{Identifier, Key, Update, key_order, same_identifier, same_unit, unit_of}

@@ -5,15 +5,15 @@ use Rattle.std.specs.List.{list_any}
 use Rattle.std.specs.Bool.{then_some}
 use Rattle.std.specs.Ordering.{is_eq}
 use Rattle.std.proofs.lemmas.Bool.{or_parts, both_ways, ltb-false}
-use Rattle.adr_stamp.specs.Order.{identifier_order}
-use Rattle.adr_stamp.specs.declared.Oid.{Oid}
-use Rattle.adr_schema.proofs.ExactCalls.{not_then}
-use Rattle.adr_schema.specs.Numbered.{numbered}
-use Rattle.adr_vector.specs.Vector.{Cursors, IsVector, at, raised, cursor_limit}
-use Rattle.adr_vector.proofs.Cursors.{same_from_test, test_itself}
-use Rattle.adr_vector.proofs.Comparing.{everywhere_from_at_most, at_most_from_everywhere}
-use Rattle.adr_vector.proofs.Joining.{raised_here, rising-raised, from_one-raised}
-use Rattle.adr_vector.proofs.Moments.{times_stay}
+use Rattle.adr_values.specs.Order.{identifier_order}
+use Rattle.adr_values.specs.declared.stamp.Oid.{Oid}
+use Rattle.adr_values.proofs.ExactCalls.{not_then}
+use Rattle.adr_values.specs.Numbered.{numbered}
+use Rattle.adr_values.specs.Vector.{Cursors, IsVector, at, raised, cursor_limit}
+use Rattle.adr_values.proofs.Cursors.{same_from_test, test_itself}
+use Rattle.adr_values.proofs.Comparing.{everywhere_from_at_most, at_most_from_everywhere}
+use Rattle.adr_values.proofs.Joining.{raised_here, rising-raised, from_one-raised}
+use Rattle.adr_values.proofs.Moments.{times_stay}
 use Rattle.adr_call.specs.declared.refusal.Table.TheVariants.{Cursors as CursorTable}
 use Rattle.adr_call.specs.declared.refusal.AdoptRefusal.TheVariants.{IdentifierUsed, Full}
 use Rattle.adr_model.specs.Update.{Identifier, inv_of, same_identifier, ends}
@@ -21,7 +21,7 @@ use Rattle.adr_model.specs.Store.{Held, PartnerMark, Normal, Store, State, updat
 use Rattle.adr_model.specs.Formed.{IsFormedStore, IsFormed}
 use Rattle.adr_model.specs.Sound.{AreClassesKnown}
 use Rattle.adr_model.specs.Collect.{names_inv, woken, adopt_refusal, adopt, quarantine}
-use Rattle.adr_schema.proofs.Extending.{second_is_last}
+use Rattle.adr_values.proofs.Extending.{second_is_last}
 use Rattle.adr_call.specs.declared.refusal.UpgradeRefusal.TheVariants.{Quarantined, SchemaThere}
 use Rattle.adr_model.specs.Change.{Change}
 use Rattle.adr_model.specs.Serve.{is_quarantined}

@@ -1,7 +1,7 @@
 -- A reply that is spelled and is taken by a formed state: the change can follow it, and leaves a formed one.
 use Rattle.std.proofs.Common.{◌≡◌, ◌≤◌, [], Some, unwrap_or, refl, sym, subst, Ok, inl}
-use Rattle.adr_schema.specs.Numbered.{numbered}
-use Rattle.adr_vector.specs.Vector.{IsVector}
+use Rattle.adr_values.specs.Numbered.{numbered}
+use Rattle.adr_values.specs.Vector.{IsVector}
 use Rattle.adr_model.specs.Member.{Member, Each}
 use Rattle.adr_model.specs.Store.{State, updates_of}
 use Rattle.adr_model.specs.Change.{Item, Change, updates_written}

@@ -3,16 +3,16 @@ use Rattle.std.proofs.Common.{◌≡◌, ◌⊎◌, inl, inr, ⊎_elim, ℕ, zer
 use Rattle.std.specs.Prelude.{is_none, nat_le}
 use Rattle.std.specs.List.{list_all}
 use Rattle.std.proofs.lemmas.Bool.{and_parts, and_from, both_ways, eqb-true, eq-eqb, leb-true}
-use Rattle.adr_stamp.specs.declared.Oid.{Oid}
-use Rattle.adr_stamp.specs.declared.LinkStamp.{LinkStamp}
-use Rattle.adr_schema.specs.declared.content.Value.{Value as Datum}
-use Rattle.adr_schema.specs.declared.content.Content.TheVariants.{Class, Name, Dead, Values}
-use Rattle.adr_schema.specs.Allowed.{MayBeHeld}
-use Rattle.adr_schema.specs.Names.{name_fault}
-use Rattle.adr_schema.specs.Numbered.{numbered}
-use Rattle.adr_schema.specs.Rules.{row_refusal}
-use Rattle.adr_schema.specs.Table.{Table, Class as TableClass, has, class_at, must_of}
-use Rattle.adr_schema.proofs.ExactRows.{may_be_held, not_refused_held}
+use Rattle.adr_values.specs.declared.stamp.Oid.{Oid}
+use Rattle.adr_values.specs.declared.stamp.LinkStamp.{LinkStamp}
+use Rattle.adr_values.specs.declared.content.Value.{Value as Datum}
+use Rattle.adr_values.specs.declared.content.Content.TheVariants.{Class, Name, Dead, Values}
+use Rattle.adr_values.specs.Allowed.{MayBeHeld}
+use Rattle.adr_values.specs.Names.{name_fault}
+use Rattle.adr_values.specs.Numbered.{numbered}
+use Rattle.adr_values.specs.Rules.{row_refusal}
+use Rattle.adr_values.specs.Table.{Table, Class as TableClass, has, class_at, must_of}
+use Rattle.adr_values.proofs.ExactRows.{may_be_held, not_refused_held}
 use Rattle.adr_model.specs.Member.{Member, Each}
 use Rattle.adr_model.specs.Update.{Identifier, RowOf, Said, Holds, IsPresent, Update, class_attr, name_attr, deleted_attr}
 use Rattle.adr_model.specs.Reflects.{HoldsObject, IsTombstoned}

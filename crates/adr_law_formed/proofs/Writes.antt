@@ -1,8 +1,8 @@
 -- Writes one after the other: one more follows, under a new local USN.
 use Rattle.std.proofs.Common.{◌≡◌, ℕ, ◌≤◌, ◌<◌, List, [], ◌∷◌, ◌++◌, ap, ◌∙◌, subst, fold, arith}
 use Rattle.std.proofs.lemmas.Grind.{fold-append}
-use Rattle.adr_schema.specs.Table.{Table}
-use Rattle.adr_vector.specs.Vector.{Cursors}
+use Rattle.adr_values.specs.Table.{Table}
+use Rattle.adr_values.specs.Vector.{Cursors}
 use Rattle.adr_model.specs.Store.{Held}
 use Rattle.adr_model.specs.Change.{Written, held_of, put, rows_after}
 use Rattle.adr_law_calls.proofs.ItemStep.{held_of_both}

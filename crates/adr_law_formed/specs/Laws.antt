@@ -1,10 +1,10 @@
 -- The laws, as facts: a formed state is formed behind each change of a call, which can follow it.
 use Rattle.std.specs.Prelude.{◌≡◌, ◌⊎◌, ◌≤◌, ℕ, List, [], map, true, None, Some, unwrap_or, Ok}
 use Rattle.std.specs.List.Sorted.{IsStrictlySortedBy}
-use Rattle.adr_stamp.specs.Order.{identifier_order, object_order}
-use Rattle.adr_schema.specs.Numbered.{numbered}
-use Rattle.adr_schema.specs.Table.{Table}
-use Rattle.adr_vector.specs.Vector.{Cursors}
+use Rattle.adr_values.specs.Order.{identifier_order, object_order}
+use Rattle.adr_values.specs.Numbered.{numbered}
+use Rattle.adr_values.specs.Table.{Table}
+use Rattle.adr_values.specs.Vector.{Cursors}
 use Rattle.adr_model.specs.Member.{Member, Each}
 use Rattle.adr_model.specs.Update.{Identifier}
 use Rattle.adr_model.specs.Store.{Held, PartnerMark, Normal, Store, State, updates_of, empty_state}

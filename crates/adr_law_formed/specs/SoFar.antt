@@ -1,6 +1,6 @@
 -- What holds of the rows on the way through the items of a reply, whatever its source is.
 use Rattle.std.specs.Prelude.{◌≤◌}
-use Rattle.adr_schema.specs.Numbered.{numbered}
+use Rattle.adr_values.specs.Numbered.{numbered}
 use Rattle.adr_model.specs.Member.{Each}
 use Rattle.adr_model.specs.Store.{State, updates_of}
 use Rattle.adr_model.specs.Sound.{AreClassesKnown}

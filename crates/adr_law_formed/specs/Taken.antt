@@ -1,8 +1,8 @@
 -- Rows of an item that are taken, and deaths as calls write them.
 use Rattle.std.specs.Prelude.{◌≡◌, ℕ, List, true}
-use Rattle.adr_stamp.specs.declared.Unit.{Unit as Named}
-use Rattle.adr_schema.specs.Numbered.{numbered}
-use Rattle.adr_vector.specs.Vector.{Cursors, at}
+use Rattle.adr_values.specs.declared.stamp.Unit.{Unit as Named}
+use Rattle.adr_values.specs.Numbered.{numbered}
+use Rattle.adr_values.specs.Vector.{Cursors, at}
 use Rattle.adr_model.specs.Member.{Each}
 use Rattle.adr_model.specs.Update.{Update}
 use Rattle.adr_model.specs.Reflects.{IsDeath}

@@ -3,9 +3,9 @@ use Rattle.std.proofs.Common.{◌≡◌, ℕ, ◌+◌, ◌<◌, ◌≤◌, List,
 use Rattle.std.specs.Bool.{then_some}
 use Rattle.std.specs.List.{flat_map}
 use Rattle.std.proofs.lemmas.List.{length-append}
-use Rattle.adr_stamp.specs.declared.LinkStamp.{LinkStamp}
-use Rattle.adr_vector.specs.Vector.{Cursors}
-use Rattle.adr_vector.specs.declared.mark.Mark.{Mark}
+use Rattle.adr_values.specs.declared.stamp.LinkStamp.{LinkStamp}
+use Rattle.adr_values.specs.Vector.{Cursors}
+use Rattle.adr_values.specs.declared.mark.Mark.{Mark}
 use Rattle.adr_wire.specs.Composites.{mark, vector}
 use Rattle.adr_wire.specs.Fields.{u16, u32, u64}
 use Rattle.adr_wire.specs.Headed.{head}

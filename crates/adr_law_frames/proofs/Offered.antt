@@ -1,9 +1,9 @@
 -- Which rows an item has that a store can send.
 use Rattle.std.proofs.Common.{◌≡◌, ℕ, List, [], ◌∷◌, ◌&&◌, refl, sym, ap, ◌∙◌, subst, map, filter}
 use Rattle.std.specs.List.Sorted.{IsStrictlySortedBy}
-use Rattle.adr_stamp.specs.declared.Unit.{Unit as Named}
-use Rattle.adr_vector.specs.Vector.{Cursors}
-use Rattle.adr_vector.specs.declared.mark.Mark.{Mark}
+use Rattle.adr_values.specs.declared.stamp.Unit.{Unit as Named}
+use Rattle.adr_values.specs.Vector.{Cursors}
+use Rattle.adr_values.specs.declared.mark.Mark.{Mark}
 use Rattle.adr_model.specs.Member.{Member, Each}
 use Rattle.adr_model.specs.Update.{Key, Update, key_order, same_unit, unit_of}
 use Rattle.adr_model.specs.Store.{Held, updates_of}

@@ -7,11 +7,11 @@ use Rattle.adr_call.specs.declared.write.Write.{Write}
 use Rattle.adr_call.specs.declared.write.Write.TheVariants as writes
 use Rattle.adr_event.specs.declared.event.Event.{Event}
 use Rattle.adr_event.specs.declared.event.Event.TheVariants as events
-use Rattle.adr_schema.specs.Assignments.{Given}
-use Rattle.adr_schema.proofs.ExactCalls.{not_then}
+use Rattle.adr_values.specs.Assignments.{Given}
+use Rattle.adr_values.proofs.ExactCalls.{not_then}
 use Rattle.adr_schedule.specs.declared.fault.Cause.{Cause}
 use Rattle.adr_schedule.specs.Grammar.{AreGiven, IsAllowed}
-use Rattle.adr_failure.specs.First.{first_of}
+use Rattle.adr_values.specs.First.{first_of}
 use Rattle.adr_schedule.specs.Seen.{Seen, nothing_seen, is_bound, if_bound, if_inv_given, if_given, if_full, unless_bound, cause_after, with_controller, seen_after, IsFollowing}
 use Rattle.adr_model.specs.Member.{Member, Each}
 use Rattle.adr_model.specs.Write.{write_meant}

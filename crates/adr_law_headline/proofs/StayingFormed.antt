@@ -2,7 +2,7 @@
 -- and this of its rows, and such a state answers so.
 use Rattle.std.proofs.Common.{◌≡◌, ℕ, List, Ok, refl, sym, ap, ◌∙◌, subst, map, filter}
 use Rattle.std.specs.Prelude.{◌&&◌}
-use Rattle.adr_vector.specs.declared.mark.Mark.{Mark}
+use Rattle.adr_values.specs.declared.mark.Mark.{Mark}
 use Rattle.adr_wire.specs.Ranges.{IsId, IsU64}
 use Rattle.adr_image.specs.Stored.{IsSpelled}
 use Rattle.adr_records.specs.Logged.{IsLogged, MayBeRecorded}

@@ -8,9 +8,9 @@ use Rattle.adr_call.specs.declared.write.Write.TheVariants.{Add, Modify, Rename,
 use Rattle.adr_event.specs.Supported.{IsSupported}
 use Rattle.adr_event.specs.declared.event.Event.{Event}
 use Rattle.adr_event.specs.declared.event.Event.TheVariants as events
-use Rattle.adr_schema.specs.Assignments.{Given}
-use Rattle.adr_schema.specs.declared.content.Value.{Value as Item}
-use Rattle.adr_schema.specs.declared.content.Value.TheVariants.{Text, Number, Flag, Octets, Ref}
+use Rattle.adr_values.specs.Assignments.{Given}
+use Rattle.adr_values.specs.declared.content.Value.{Value as Item}
+use Rattle.adr_values.specs.declared.content.Value.TheVariants.{Text, Number, Flag, Octets, Ref}
 use Rattle.adr_token.specs.Texts.{is_text}
 use Rattle.adr_token.specs.Spelled.{SpellsValue, SpellsValues}
 use Rattle.adr_schedule.specs.Grammar.{given_in, tokens_written, tokens_behind, sets, HaveSpellings, IsLimit, IsAllowed}

@@ -6,11 +6,11 @@ use Rattle.std.specs.Ordering.{ordering_reverse, ordering_then, is_eq, is_lt, is
 use Rattle.std.specs.declared.cmp.Ordering.{Ordering}
 use Rattle.std.specs.declared.cmp.Ordering.TheVariants.{Less, Equal, Greater}
 use Rattle.std.proofs.lemmas.Cmp.{tied_itself, upto, nat_cmp_total}
-use Rattle.adr_stamp.specs.declared.Oid.{Oid}
-use Rattle.adr_stamp.specs.Order.{identifier_order, stamp_order, link_stamp_order}
-use Rattle.adr_stamp.specs.contracts.OidOrd.TheImpl.Laws.{total-law as objects_total}
-use Rattle.adr_stamp.specs.contracts.LinkStampOrd.TheImpl.Laws.{total-law as link_stamps_total}
-use Rattle.adr_stamp.proofs.Exact.{exact_link_stamps}
+use Rattle.adr_values.specs.declared.stamp.Oid.{Oid}
+use Rattle.adr_values.specs.Order.{identifier_order, stamp_order, link_stamp_order}
+use Rattle.adr_values.specs.contracts.stamp.OidOrd.TheImpl.Laws.{total-law as objects_total}
+use Rattle.adr_values.specs.contracts.stamp.LinkStampOrd.TheImpl.Laws.{total-law as link_stamps_total}
+use Rattle.adr_values.proofs.ExactOrders.{exact_link_stamps}
 use Rattle.adr_model.specs.Update.{Key, Update, key_order, same_key, same_object, is_older, at_least}
 use Rattle.adr_model.specs.Reflects.{Supersedes}
 use Rattle.adr_model.proofs.Keys.{equal_order, exact_keys, keys_total}

@@ -4,9 +4,9 @@ use Rattle.std.specs.Ordering.{is_eq}
 use Rattle.std.specs.declared.cmp.Ordering.{Ordering}
 use Rattle.std.specs.declared.cmp.Ordering.TheVariants.{Less, Equal, Greater}
 use Rattle.std.proofs.lemmas.Map.Lookups.{exact_bytes}
-use Rattle.adr_stamp.specs.Order.{identifier_order}
-use Rattle.adr_vector.specs.Vector.{Cursors, at}
-use Rattle.adr_vector.proofs.Cursors.{IsRising, FromOne, turned, below_all, at_head, at_rest, at_below, same_from_test, head_below, tail_rising}
+use Rattle.adr_values.specs.Order.{identifier_order}
+use Rattle.adr_values.specs.Vector.{Cursors, at}
+use Rattle.adr_values.proofs.Cursors.{IsRising, FromOne, turned, below_all, at_head, at_rest, at_below, same_from_test, head_below, tail_rising}
 
 -- the second has a number wherever the first has one
 abbrev pub IsWithin : Cursors → Cursors → Type 0

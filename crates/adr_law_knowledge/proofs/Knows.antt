@@ -1,8 +1,8 @@
 -- What a store reflects goes up along stamps, and stays along steps.
 use Rattle.std.proofs.Common.{◌≡◌, ◌⊎◌, inl, inr, ⊎_elim, ℕ, ◌≤◌, List, ap, ◌∙◌, subst, arith, true, ◌&&◌, ◌==◌}
 use Rattle.std.proofs.lemmas.Bool.{eqb-true, and_parts}
-use Rattle.adr_stamp.specs.declared.Oid.{Oid}
-use Rattle.adr_vector.proofs.Cursors.{same_from_test}
+use Rattle.adr_values.specs.declared.stamp.Oid.{Oid}
+use Rattle.adr_values.proofs.Cursors.{same_from_test}
 use Rattle.adr_model.specs.Take.{is_birth}
 use Rattle.adr_model.specs.Member.{Member, Each}
 use Rattle.adr_model.specs.Update.{Update, RowOf, ends, inv_of, usn_of, same_identifier, class_attr, deleted_attr}

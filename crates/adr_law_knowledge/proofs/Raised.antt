@@ -3,10 +3,10 @@ use Rattle.std.proofs.Common.{◌≡◌, ℕ, ◌≤◌, Bool, true, false, cond
 use Rattle.std.specs.BTreeMap.{insert_entry}
 use Rattle.std.specs.Ordering.{is_eq}
 use Rattle.std.proofs.lemmas.Bool.{le-leb}
-use Rattle.adr_stamp.specs.Order.{identifier_order}
-use Rattle.adr_vector.specs.Vector.{Cursors, IsVector, at, raised, cursor_limit}
-use Rattle.adr_vector.proofs.Cursors.{same_from_test}
-use Rattle.adr_vector.proofs.Joining.{at-raised, rising-raised, from_one-raised}
+use Rattle.adr_values.specs.Order.{identifier_order}
+use Rattle.adr_values.specs.Vector.{Cursors, IsVector, at, raised, cursor_limit}
+use Rattle.adr_values.proofs.Cursors.{same_from_test}
+use Rattle.adr_values.proofs.Joining.{at-raised, rising-raised, from_one-raised}
 use Rattle.adr_model.specs.Update.{Identifier}
 use Rattle.adr_model.specs.Reflects.{AtMost}
 use Rattle.adr_law_knowledge.proofs.Fewer.{IsWithin, no_more_cursors}

@@ -5,11 +5,11 @@ use Rattle.std.specs.List.{AllByRecursion}
 use Rattle.std.specs.Bool.{then_some}
 use Rattle.std.specs.Option.{IfSome, option_map}
 use Rattle.std.proofs.lemmas.Bool.{not-false}
-use Rattle.adr_schema.proofs.ExactCalls.{not_then}
-use Rattle.adr_vector.specs.Vector.{Cursors, at_most, first_gap}
-use Rattle.adr_vector.proofs.Comparing.{gap-is-not_at_most}
+use Rattle.adr_values.proofs.ExactCalls.{not_then}
+use Rattle.adr_values.specs.Vector.{Cursors, at_most, first_gap}
+use Rattle.adr_values.proofs.Comparing.{gap-is-not_at_most}
 use Rattle.adr_model.specs.Member.{Each}
-use Rattle.adr_failure.specs.First.{first_of}
+use Rattle.adr_values.specs.First.{first_of}
 use Rattle.adr_model.specs.Refusing.{unless}
 
 module _ {A : Type 0} where

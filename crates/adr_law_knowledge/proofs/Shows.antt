@@ -2,10 +2,10 @@
 use Rattle.std.proofs.Common.{◌≡◌, ◌⊎◌, inl, inr, List, Bool, true, false, ◌&&◌, not, Option, Some, None, refl, sym, ap, ◌∙◌, subst, filter}
 use Rattle.std.specs.List.{list_any, list_all}
 use Rattle.std.specs.declared.cmp.Ordering.TheVariants.{Less}
-use Rattle.adr_stamp.specs.declared.Oid.{Oid}
-use Rattle.adr_stamp.specs.Order.{object_order}
-use Rattle.adr_stamp.specs.contracts.OidOrd.TheImpl.Laws.{total-law as objects_total}
-use Rattle.adr_stamp.proofs.Exact.{exact_objects}
+use Rattle.adr_values.specs.declared.stamp.Oid.{Oid}
+use Rattle.adr_values.specs.Order.{object_order}
+use Rattle.adr_values.specs.contracts.stamp.OidOrd.TheImpl.Laws.{total-law as objects_total}
+use Rattle.adr_values.proofs.ExactOrders.{exact_objects}
 use Rattle.adr_model.specs.Member.{Member, Each}
 use Rattle.adr_model.specs.Update.{Key, RowOf, Update, class_attr, ends, same_identifier, same_object, is_older, key_order}
 use Rattle.adr_model.specs.Reflects.{AtMost, IsDeathOf, Knowledge, HoldsAtLeast, HoldsObject, IsTombstoned, IsPurged, Reflects}

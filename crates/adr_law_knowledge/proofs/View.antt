@@ -1,14 +1,14 @@
 -- What is visible to a store with sound knowledge is in its view.
 use Rattle.std.proofs.Common.{◌≡◌, ◌⊎◌, ◌↔◌, inl, inr, ⊎_elim, List, Bool, true, false, ◌&&◌, ◌||◌, refl, sym, ap, ◌∙◌, subst, arith}
 use Rattle.std.proofs.lemmas.Bool.{and_from, and_parts, or_left, or_right, leb-true, le-leb, or_cases}
-use Rattle.adr_vector.specs.Vector.{Cursors, at}
+use Rattle.adr_values.specs.Vector.{Cursors, at}
 use Rattle.adr_model.specs.Member.{Member, Each}
 use Rattle.adr_model.specs.Update.{Identifier, Update, inv_of, usn_of, at_least}
 use Rattle.adr_model.specs.Reflects.{Covers, Supersedes, knowledge_of, Reflects}
 use Rattle.adr_model.specs.Store.{Store, updates_of}
 use Rattle.adr_model.specs.Visible.{covers_update, is_held, visible}
 use Rattle.adr_model.specs.Formed.{IsFormedStore}
-use Rattle.adr_vector.proofs.Comparing.{everywhere_from_at_most}
+use Rattle.adr_values.proofs.Comparing.{everywhere_from_at_most}
 use Rattle.adr_model.specs.Directory.{directory}
 use Rattle.adr_model.proofs.Members.{one_passes, of_filter, in_filter, some_passes}
 use Rattle.adr_law_knowledge.specs.Known.{CoverAlike, IsSoundKnowledge, IsInView}

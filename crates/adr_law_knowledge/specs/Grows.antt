@@ -1,6 +1,6 @@
 -- Steps of a store that lose nothing of what it has taken.
 use Rattle.std.specs.Prelude.{◌⊎◌, List}
-use Rattle.adr_stamp.specs.declared.Oid.{Oid}
+use Rattle.adr_values.specs.declared.stamp.Oid.{Oid}
 use Rattle.adr_model.specs.Member.{Member, Each}
 use Rattle.adr_model.specs.Update.{Update, ends}
 use Rattle.adr_model.specs.Reflects.{AtMost, IsDeath, Knowledge, HoldsAtLeast, IsTombstoned, IsPurged, Reflects}

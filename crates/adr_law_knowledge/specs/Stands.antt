@@ -1,6 +1,6 @@
 -- Which objects stand, by the updates alone.
 use Rattle.std.specs.Prelude.{◌≡◌, List}
-use Rattle.adr_stamp.specs.declared.Oid.{Oid}
+use Rattle.adr_values.specs.declared.stamp.Oid.{Oid}
 use Rattle.adr_model.specs.Member.{Member, Each}
 use Rattle.adr_model.specs.Update.{Update, RowOf, class_attr}
 use Rattle.adr_model.specs.Reflects.{IsDeathOf}

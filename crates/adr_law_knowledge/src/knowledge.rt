@@ -1,7 +1,7 @@
 //! What a store reflects, and what is kept of it.
 
 ghost use Rattle.std.specs.Prelude.{◌≡◌, ◌⊎◌, ℕ, List, true};
-ghost use Rattle.adr_stamp.specs.declared.Oid.{Oid};
+ghost use Rattle.adr_values.specs.declared.stamp.Oid.{Oid};
 ghost use Rattle.adr_model.specs.Member.{Member, Each};
 ghost use Rattle.adr_model.specs.Update.{Update, RowOf, class_attr, ends};
 ghost use Rattle.adr_model.specs.Reflects.{AtMost, Covers, CoversBirth, HoldsAtLeast, HoldsObject, IsDeath, IsDeathOf, IsPurged, IsTombstoned, Knowledge, Reflects, Supersedes};

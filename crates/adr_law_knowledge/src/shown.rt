@@ -1,8 +1,8 @@
 //! What a store shows.
 
 ghost use Rattle.std.specs.Prelude.{◌≡◌, ◌⊎◌, ◌↔◌, List, Some, None, false};
-ghost use Rattle.adr_stamp.specs.declared.Oid.{Oid};
-ghost use Rattle.adr_vector.specs.Vector.{Cursors, at};
+ghost use Rattle.adr_values.specs.declared.stamp.Oid.{Oid};
+ghost use Rattle.adr_values.specs.Vector.{Cursors, at};
 ghost use Rattle.adr_model.specs.Member.{Member, Each};
 ghost use Rattle.adr_model.specs.Update.{Identifier, Key, Update, ends, is_older};
 ghost use Rattle.adr_model.specs.Winner.{winner, winners};

@@ -1,7 +1,7 @@
 //! Up-to-dateness vectors as numbers.
 
 ghost use Rattle.std.specs.Prelude.{◌≡◌, ◌≢◌, ◌↔◌, ℕ, max, true};
-ghost use Rattle.adr_vector.specs.Vector.{Cursors, IsVector, at, at_most, joined, raised};
+ghost use Rattle.adr_values.specs.Vector.{Cursors, IsVector, at, at_most, joined, raised};
 ghost use Rattle.adr_model.specs.Update.{Identifier, Update};
 ghost use Rattle.adr_model.specs.Reflects.{AtMost, Covers, Numbers};
 ghost use Rattle.adr_model.specs.Visible.{covers_update};

@@ -1,7 +1,7 @@
 -- What the formats write of an item, and which item it is.
 use Rattle.std.specs.Prelude.{ℕ, List, [], ◌∷◌, ◌++◌, map}
-use Rattle.adr_stamp.specs.declared.Oid.{Oid}
-use Rattle.adr_stamp.specs.declared.Unit.TheVariants.{Object, Link}
+use Rattle.adr_values.specs.declared.stamp.Oid.{Oid}
+use Rattle.adr_values.specs.declared.stamp.Unit.TheVariants.{Object, Link}
 use Rattle.adr_wire.specs.Fields.{u8}
 use Rattle.adr_wire.specs.Composites.{Row, LinkItem, object, link}
 use Rattle.adr_model.specs.Update.{Update, RowOf, LinkOf, Holds, IsPresent}

@@ -1,10 +1,10 @@
 //! Lengths by the model, and by the formats.
 
 ghost use Rattle.std.specs.Prelude.{◌≡◌, ℕ, List, length};
-ghost use Rattle.adr_stamp.specs.declared.Oid.{Oid};
-ghost use Rattle.adr_schema.specs.declared.content.Value.{Value};
-ghost use Rattle.adr_schema.specs.declared.content.Content.{Content};
-ghost use Rattle.adr_vector.specs.Vector.{Cursors};
+ghost use Rattle.adr_values.specs.declared.stamp.Oid.{Oid};
+ghost use Rattle.adr_values.specs.declared.content.Value.{Value};
+ghost use Rattle.adr_values.specs.declared.content.Content.{Content};
+ghost use Rattle.adr_values.specs.Vector.{Cursors};
 ghost use Rattle.adr_wire.specs.Composites.{value, content, vector, Row, LinkItem};
 ghost use Rattle.adr_wire.specs.Ranges.{IsValue, IsContent, IsObject, IsLink, IsCursors};
 ghost use Rattle.adr_model.specs.Update.{Holds};

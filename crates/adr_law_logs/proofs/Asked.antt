@@ -1,7 +1,7 @@
 -- What a sound store asks a partner.
 use Rattle.std.proofs.Common.{ℕ, ◌≤◌, arith}
 use Rattle.std.specs.BTreeMap.{is_at}
-use Rattle.adr_stamp.specs.Order.{identifier_order}
+use Rattle.adr_values.specs.Order.{identifier_order}
 use Rattle.adr_model.specs.Update.{Identifier}
 use Rattle.adr_model.specs.Place.{identifier}
 use Rattle.adr_model.specs.Store.{PartnerMark, State, no_mark, kept_of}

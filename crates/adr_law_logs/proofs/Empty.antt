@@ -1,7 +1,7 @@
 -- A new controller.
 use Rattle.std.proofs.Common.{◌≡◌, [], refl, arith}
 use Rattle.std.specs.List.Sorted.{IsStrictlySortedBy}
-use Rattle.adr_vector.proofs.Moments.{no_times}
+use Rattle.adr_values.proofs.Moments.{no_times}
 use Rattle.adr_model.specs.Update.{Identifier}
 use Rattle.adr_model.specs.Store.{empty_store, empty_state}
 use Rattle.adr_model.specs.Formed.{IsFormedStore}

@@ -4,7 +4,7 @@ use Rattle.std.proofs.lemmas.Bool.Decides.{leb_tells}
 use Rattle.adr_model.specs.Member.{Member, Each}
 use Rattle.adr_model.specs.Store.{Held}
 use Rattle.adr_model.specs.Change.{Change, Written, held_of, rows_after}
-use Rattle.adr_stamp.specs.declared.Oid.{Oid}
+use Rattle.adr_values.specs.declared.stamp.Oid.{Oid}
 use Rattle.adr_model.specs.LocalLog.{LocalLog, last_usn, where_made, rows_at, IsBoundary, Follows, IsKept}
 use Rattle.adr_model.specs.Replica.{with_change}
 use Rattle.adr_model.specs.LocalLog.{first_log}

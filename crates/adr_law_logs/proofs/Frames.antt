@@ -1,8 +1,8 @@
 -- What was sound stays sound when the book grows: what is reflected, vectors, marks and stores.
 use Rattle.std.proofs.Common.{◌≡◌, inl, inr, ⊎_elim, ℕ, ◌≤◌, List, refl, sym, ◌∙◌, subst, ap, arith}
-use Rattle.adr_stamp.specs.declared.Oid.{Oid}
-use Rattle.adr_vector.specs.Vector.{at, raised}
-use Rattle.adr_vector.specs.declared.mark.Mark.{Mark}
+use Rattle.adr_values.specs.declared.stamp.Oid.{Oid}
+use Rattle.adr_values.specs.Vector.{at, raised}
+use Rattle.adr_values.specs.declared.mark.Mark.{Mark}
 use Rattle.adr_model.specs.Member.{Member}
 use Rattle.adr_model.specs.Update.{Identifier, Update, inv_of, usn_of, ends}
 use Rattle.adr_model.specs.Reflects.{Numbers, Covers, CoversBirth, Knowledge, knowledge_of, Reflects}

@@ -5,7 +5,7 @@ use Rattle.std.proofs.lemmas.Bool.{true≢false, le-ltb}
 use Rattle.std.specs.List.{AllByRecursion}
 use Rattle.std.specs.Option.{IfSome, option_map}
 use Rattle.std.specs.Prelude.{nat_lt}
-use Rattle.adr_vector.specs.Vector.{at_most, first_gap}
+use Rattle.adr_values.specs.Vector.{at_most, first_gap}
 use Rattle.adr_call.specs.declared.refusal.ServeRefusal.{ServeRefusal}
 use Rattle.adr_call.specs.declared.refusal.ServeRefusal.TheVariants.{Quarantined as IsQuarantined, WrongController, BadMark, RolledBack, SchemaMismatch, TooOld}
 use Rattle.adr_model.specs.Store.{State}

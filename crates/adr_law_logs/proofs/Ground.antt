@@ -5,8 +5,8 @@ use Rattle.std.proofs.lemmas.Bool.Decides.{leb_tells}
 use Rattle.std.specs.Prelude.{nat_lt}
 use Rattle.std.specs.Cmp.Derive.{both_true}
 use Rattle.std.proofs.lemmas.Bool.Decides.{nat_tests}
-use Rattle.adr_vector.specs.Vector.{Cursors, at}
-use Rattle.adr_vector.specs.declared.mark.Mark.{Mark}
+use Rattle.adr_values.specs.Vector.{Cursors, at}
+use Rattle.adr_values.specs.declared.mark.Mark.{Mark}
 use Rattle.adr_model.specs.Member.{Member, Each}
 use Rattle.adr_model.specs.Update.{inv_of, usn_of, unit_of}
 use Rattle.adr_model.specs.Reflects.{Covers}

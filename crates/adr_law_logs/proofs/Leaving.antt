@@ -4,10 +4,10 @@ use Rattle.std.specs.Option.{IfSome}
 use Rattle.std.specs.Ordering.{is_eq}
 use Rattle.std.proofs.lemmas.Bool.Decides.{leb_tells}
 use Rattle.std.proofs.lemmas.Map.Lookups.{exact_bytes}
-use Rattle.adr_stamp.specs.Order.{identifier_order}
-use Rattle.adr_vector.specs.Vector.{at, joined}
-use Rattle.adr_vector.proofs.Cursors.{test_itself, same_from_test}
-use Rattle.adr_vector.proofs.Joining.{at-raised, at-joined}
+use Rattle.adr_values.specs.Order.{identifier_order}
+use Rattle.adr_values.specs.Vector.{at, joined}
+use Rattle.adr_values.proofs.Cursors.{test_itself, same_from_test}
+use Rattle.adr_values.proofs.Joining.{at-raised, at-joined}
 use Rattle.adr_model.specs.Member.{Member, Each}
 use Rattle.adr_model.specs.Update.{Identifier, Update, inv_of, usn_of}
 use Rattle.adr_model.specs.Reflects.{Numbers, Covers, knowledge_of, Reflects}

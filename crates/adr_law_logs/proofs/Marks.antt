@@ -1,6 +1,6 @@
 -- What a mark says of a log moves on with the log.
 use Rattle.std.proofs.Common.{inl, inr, ℕ, ◌≤◌, List, refl, arith}
-use Rattle.adr_vector.specs.declared.mark.Mark.{Mark}
+use Rattle.adr_values.specs.declared.mark.Mark.{Mark}
 use Rattle.adr_model.specs.Member.{Member}
 use Rattle.adr_model.specs.Update.{Update}
 use Rattle.adr_model.specs.Reflects.{Knowledge}

@@ -1,6 +1,6 @@
 -- The mark of a reply tells the truth once what was sent is reflected.
 use Rattle.std.proofs.Common.{◌⊎◌, inl, inr, arith}
-use Rattle.adr_vector.specs.Vector.{at}
+use Rattle.adr_values.specs.Vector.{at}
 use Rattle.adr_model.specs.Update.{inv_of}
 use Rattle.adr_model.specs.Reflects.{Covers, Knowledge, Reflects}
 use Rattle.adr_model.specs.LocalLog.{rows_at, IsBelow, WatermarkHolds}

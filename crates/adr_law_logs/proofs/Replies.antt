@@ -1,8 +1,8 @@
 -- A reply, and a controller's kept call, stay sound when the book grows.
 use Rattle.std.proofs.Common.{◌≡◌, inl, inr, ⊎_elim, ◌≤◌, List, sym, subst, arith}
 use Rattle.std.proofs.lemmas.Option.{IfSome_then}
-use Rattle.adr_schema.specs.Numbered.{numbered}
-use Rattle.adr_vector.specs.Vector.{Cursors, at}
+use Rattle.adr_values.specs.Numbered.{numbered}
+use Rattle.adr_values.specs.Vector.{Cursors, at}
 use Rattle.adr_model.specs.Member.{Member}
 use Rattle.adr_model.specs.Reflects.{Knowledge, Reflects}
 use Rattle.adr_model.specs.Store.{Held, updates_of}

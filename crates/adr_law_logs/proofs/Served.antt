@@ -5,14 +5,14 @@ use Rattle.std.specs.Cmp.Derive.{both_true}
 use Rattle.std.proofs.lemmas.Bool.{and_parts, ltb-true, eqb-false}
 use Rattle.std.proofs.lemmas.Bool.Decides.{leb_tells}
 use Rattle.std.specs.Prelude.{nat_lt, IfSome}
-use Rattle.adr_stamp.specs.declared.Unit.{Unit as Named}
-use Rattle.adr_schema.specs.Numbered.{numbered}
-use Rattle.adr_vector.specs.Vector.{Cursors, at, at_most}
-use Rattle.adr_vector.specs.Times.{AreTimesOf}
-use Rattle.adr_vector.proofs.Moments.{no_times, times_raise, times_filter}
-use Rattle.adr_vector.specs.declared.mark.Mark.{Mark}
-use Rattle.adr_vector.proofs.Cursors.{same_from_test}
-use Rattle.adr_vector.proofs.Comparing.{everywhere_from_at_most}
+use Rattle.adr_values.specs.declared.stamp.Unit.{Unit as Named}
+use Rattle.adr_values.specs.Numbered.{numbered}
+use Rattle.adr_values.specs.Vector.{Cursors, at, at_most}
+use Rattle.adr_values.specs.Times.{AreTimesOf}
+use Rattle.adr_values.proofs.Moments.{no_times, times_raise, times_filter}
+use Rattle.adr_values.specs.declared.mark.Mark.{Mark}
+use Rattle.adr_values.proofs.Cursors.{same_from_test}
+use Rattle.adr_values.proofs.Comparing.{everywhere_from_at_most}
 use Rattle.adr_model.specs.Member.{Member}
 use Rattle.adr_model.specs.Update.{Identifier, Update, inv_of, usn_of, unit_of, same_unit, same_identifier}
 use Rattle.adr_model.specs.Reflects.{Covers, Knowledge, knowledge_of, Reflects}

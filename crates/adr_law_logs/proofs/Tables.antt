@@ -6,8 +6,8 @@ use Rattle.std.specs.Ordering.{match_ordering, is_eq}
 use Rattle.std.specs.declared.cmp.Ordering.{Ordering}
 use Rattle.std.specs.declared.cmp.Ordering.TheVariants.{Less, Equal, Greater}
 use Rattle.std.proofs.lemmas.Map.Lookups.{CmpEqualImpliesEq, exact_bytes}
-use Rattle.adr_stamp.specs.Order.{identifier_order}
-use Rattle.adr_vector.proofs.Cursors.{test_itself, same_from_test}
+use Rattle.adr_values.specs.Order.{identifier_order}
+use Rattle.adr_values.proofs.Cursors.{test_itself, same_from_test}
 use Rattle.adr_model.specs.Member.{Member, Each}
 use Rattle.adr_model.specs.Update.{Identifier}
 

@@ -1,9 +1,9 @@
 -- What a client's write issues.
 use Rattle.std.proofs.Common.{◌≡◌, true, false, inl, inr, ℕ, ◌+◌, ◌<◌, ◌≤◌, length, List, [], ◌∷◌, Ok, refl, sym, ap, subst, arith, map}
-use Rattle.adr_schema.specs.Assignments.{Given}
-use Rattle.adr_schema.specs.declared.content.Content.TheVariants.{Values, Name, Dead}
-use Rattle.adr_stamp.specs.declared.Oid.{Oid}
-use Rattle.adr_stamp.specs.declared.LinkKey.{LinkKey}
+use Rattle.adr_values.specs.Assignments.{Given}
+use Rattle.adr_values.specs.declared.content.Content.TheVariants.{Values, Name, Dead}
+use Rattle.adr_values.specs.declared.stamp.Oid.{Oid}
+use Rattle.adr_values.specs.declared.stamp.LinkKey.{LinkKey}
 use Rattle.adr_model.specs.Member.{Member, Each}
 use Rattle.adr_model.specs.Update.{Identifier, Key, RowOf, LinkOf, Said, Holds, IsPresent, Update, inv_of, usn_of, name_attr, deleted_attr}
 use Rattle.adr_model.specs.Store.{Held, State, updates_of}

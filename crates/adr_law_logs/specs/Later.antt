@@ -1,6 +1,6 @@
 -- How a book may grow, and what a change may issue.
 use Rattle.std.specs.Prelude.{◌≡◌, ◌⊎◌, ◌≤◌, ◌<◌, ℕ, List, true, ◌++◌}
-use Rattle.adr_stamp.specs.declared.Oid.{Oid}
+use Rattle.adr_values.specs.declared.stamp.Oid.{Oid}
 use Rattle.adr_model.specs.Member.{Member, Each}
 use Rattle.adr_model.specs.Update.{Identifier, Update, RowOf, ends, inv_of, usn_of, class_attr}
 use Rattle.adr_model.specs.Change.{Change, held_of}

@@ -1,6 +1,6 @@
 -- Units with no row behind a USN, and marks of a later moment.
 use Rattle.std.specs.Prelude.{◌≤◌, ℕ, List}
-use Rattle.adr_vector.specs.declared.mark.Mark.{Mark}
+use Rattle.adr_values.specs.declared.mark.Mark.{Mark}
 use Rattle.adr_model.specs.Member.{Each}
 use Rattle.adr_model.specs.Store.{Held}
 use Rattle.adr_model.specs.LocalLog.{SameUnit}

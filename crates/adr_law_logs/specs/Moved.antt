@@ -1,5 +1,5 @@
 -- What is known before and after a reply is taken.
-use Rattle.adr_vector.specs.Vector.{at}
+use Rattle.adr_values.specs.Vector.{at}
 use Rattle.adr_model.specs.Member.{Each}
 use Rattle.adr_model.specs.Update.{Update}
 use Rattle.adr_model.specs.Reflects.{Covers, AtMost, Knowledge, Reflects}

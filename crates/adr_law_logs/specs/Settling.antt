@@ -1,7 +1,7 @@
 -- What is asked of a kept call that settles, and what is so then.
 use Rattle.std.specs.Prelude.{◌++◌, IfSome}
-use Rattle.adr_schema.specs.Numbered.{numbered}
-use Rattle.adr_vector.specs.Vector.{IsVector, at}
+use Rattle.adr_values.specs.Numbered.{numbered}
+use Rattle.adr_values.specs.Vector.{IsVector, at}
 use Rattle.adr_model.specs.Member.{Member, Each}
 use Rattle.adr_model.specs.Update.{Identifier, Update}
 use Rattle.adr_model.specs.Reflects.{Covers, knowledge_of, Reflects}

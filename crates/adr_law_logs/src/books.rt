@@ -3,7 +3,7 @@
 ghost use Rattle.std.specs.Prelude.{◌≡◌, ◌≢◌, ◌≤◌, Ok};
 ghost use Rattle.adr_model.specs.Member.{Member, Each};
 ghost use Rattle.adr_model.specs.Update.{Identifier, Update};
-ghost use Rattle.adr_vector.specs.declared.mark.Mark.{Mark};
+ghost use Rattle.adr_values.specs.declared.mark.Mark.{Mark};
 ghost use Rattle.adr_model.specs.Reflects.{Numbers, Covers, Knowledge, Reflects};
 ghost use Rattle.adr_model.specs.Store.{Store, State, empty_state};
 ghost use Rattle.adr_model.specs.Change.{after};

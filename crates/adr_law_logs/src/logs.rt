@@ -1,8 +1,8 @@
 //! What a log says of the rows that stood at a USN, and what it goes on saying as it grows.
 
 ghost use Rattle.std.specs.Prelude.{◌≡◌, ◌⊎◌, ◌≤◌, ℕ, List};
-ghost use Rattle.adr_stamp.specs.declared.Oid.{Oid};
-ghost use Rattle.adr_vector.specs.declared.mark.Mark.{Mark};
+ghost use Rattle.adr_values.specs.declared.stamp.Oid.{Oid};
+ghost use Rattle.adr_values.specs.declared.mark.Mark.{Mark};
 ghost use Rattle.adr_model.specs.Member.{Member, Each};
 ghost use Rattle.adr_model.specs.Update.{Update};
 ghost use Rattle.adr_model.specs.Reflects.{Knowledge};

@@ -2,7 +2,7 @@
 
 ghost use Rattle.std.specs.Prelude.{◌≡◌, ◌≢◌, ◌≤◌, ℕ, true, Ok, Err};
 ghost use Rattle.adr_call.specs.declared.refusal.ServeRefusal.TheVariants.{RolledBack};
-ghost use Rattle.adr_vector.specs.Vector.{at_most};
+ghost use Rattle.adr_values.specs.Vector.{at_most};
 ghost use Rattle.adr_model.specs.Update.{Identifier};
 ghost use Rattle.adr_model.specs.Store.{State};
 ghost use Rattle.adr_model.specs.LocalLog.{rows_at};

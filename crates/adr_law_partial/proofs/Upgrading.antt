@@ -2,10 +2,10 @@
 use Rattle.std.proofs.Common.{◌≡◌, cond, sym, ap, ◌∙◌, subst, refl, Ok, arith}
 use Rattle.std.specs.BTreeMap.{insert_entry}
 use Rattle.std.proofs.lemmas.Bool.{le-leb}
-use Rattle.adr_stamp.specs.Order.{identifier_order}
-use Rattle.adr_schema.specs.Numbered.{numbered}
-use Rattle.adr_schema.proofs.Extending.{second_is_last}
-use Rattle.adr_vector.specs.Vector.{at, raised}
+use Rattle.adr_values.specs.Order.{identifier_order}
+use Rattle.adr_values.specs.Numbered.{numbered}
+use Rattle.adr_values.proofs.Extending.{second_is_last}
+use Rattle.adr_values.specs.Vector.{at, raised}
 use Rattle.adr_model.specs.Store.{State, Store, updates_of}
 use Rattle.adr_model.specs.Change.{Change, after}
 use Rattle.adr_model.specs.Formed.{IsFormed}

@@ -1,7 +1,7 @@
 -- What a state of a log asks a partner is in range.
 use Rattle.std.proofs.Common.{ℕ, refl, arith}
 use Rattle.std.specs.BTreeMap.{is_at}
-use Rattle.adr_stamp.specs.Order.{identifier_order}
+use Rattle.adr_values.specs.Order.{identifier_order}
 use Rattle.adr_wire.specs.Ranges.{IsU32, IsMark}
 use Rattle.adr_model.specs.Update.{Identifier}
 use Rattle.adr_model.specs.Place.{identifier}

@@ -3,11 +3,11 @@ use Rattle.std.proofs.Common.{◌≡◌, ℕ, ◌+◌, ◌<◌, ◌^◌, List, O
 use Rattle.std.specs.Prelude.{nat_lt}
 use Rattle.std.specs.Option.{option_map_or}
 use Rattle.std.proofs.lemmas.Bool.{ltb-false, eqb-false}
-use Rattle.adr_stamp.specs.declared.Oid.{Oid}
-use Rattle.adr_stamp.specs.declared.LinkKey.{LinkKey}
-use Rattle.adr_stamp.specs.declared.LinkStamp.{LinkStamp}
+use Rattle.adr_values.specs.declared.stamp.Oid.{Oid}
+use Rattle.adr_values.specs.declared.stamp.LinkKey.{LinkKey}
+use Rattle.adr_values.specs.declared.stamp.LinkStamp.{LinkStamp}
 use Rattle.adr_call.specs.declared.refusal.WriteRefusal.TheVariants.{UsnLimit, VersionLimit}
-use Rattle.adr_schema.specs.Numbered.{numbered}
+use Rattle.adr_values.specs.Numbered.{numbered}
 use Rattle.adr_wire.specs.Ranges.{IsU64, IsUsn, IsOid, IsStamp}
 use Rattle.adr_model.specs.Member.{Each}
 use Rattle.adr_model.specs.Update.{Identifier, Key, RowOf, LinkOf, Said, Holds, IsPresent, Update, deleted_attr}

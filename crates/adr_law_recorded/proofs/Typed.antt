@@ -1,9 +1,9 @@
 -- Values that a spelled store shows are typed.
 use Rattle.std.proofs.Common.{◌≡◌, List, Option, Some, None, unwrap_or, refl, sym, ap, subst}
-use Rattle.adr_schema.specs.declared.content.Value.{Value as Datum}
-use Rattle.adr_schema.specs.declared.content.Value.TheVariants.{Text, Number, Flag, Octets, Ref}
-use Rattle.adr_schema.specs.Assignments.{Given}
-use Rattle.adr_schema.specs.Numbered.{numbered}
+use Rattle.adr_values.specs.declared.content.Value.{Value as Datum}
+use Rattle.adr_values.specs.declared.content.Value.TheVariants.{Text, Number, Flag, Octets, Ref}
+use Rattle.adr_values.specs.Assignments.{Given}
+use Rattle.adr_values.specs.Numbered.{numbered}
 use Rattle.adr_call.specs.declared.directory.Entry.{Entry}
 use Rattle.adr_wire.specs.Ranges.{IsValue}
 use Rattle.adr_model.specs.Member.{Each, Member}

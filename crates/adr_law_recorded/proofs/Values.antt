@@ -4,20 +4,20 @@ use Rattle.std.specs.Prelude.{is_some, nat_lt, nat_le}
 use Rattle.std.specs.List.{list_all, AllByRecursion}
 use Rattle.std.specs.Option.{option_map}
 use Rattle.std.proofs.lemmas.Bool.{and_parts, ltb-true, ltb-false, leb-true, eqb-true, ne_eqb}
-use Rattle.adr_schema.specs.declared.content.Value.{Value as Datum}
-use Rattle.adr_schema.specs.declared.content.Value.TheVariants.{Text, Number, Flag, Octets, Ref}
-use Rattle.adr_schema.specs.declared.content.Content.TheVariants.{Values}
-use Rattle.adr_schema.specs.declared.table.Syntax.{Syntax}
-use Rattle.adr_schema.specs.declared.table.Syntax.TheVariants.{Text as OfText, Number as OfNumber, Flag as OfFlag, Octets as OfOctets, Ref as OfRef}
-use Rattle.adr_schema.specs.declared.table.Kind.{Kind}
-use Rattle.adr_schema.specs.declared.table.Kind.TheVariants.{Reserved, Plain, Forward, Back}
-use Rattle.adr_schema.specs.Table.{Table, Attribute, Class as ClassOf, class_at, attribute_at, kind_at, is_forward}
-use Rattle.adr_schema.specs.Schemas.{schema_1, schema_2}
-use Rattle.adr_schema.specs.Numbered.{numbered}
-use Rattle.adr_schema.specs.Names.{name_fault, is_wrong_byte}
-use Rattle.adr_schema.specs.Places.{first_place}
-use Rattle.adr_schema.specs.Values.{fits, is_within}
-use Rattle.adr_schema.specs.Allowed.{IsAllowed}
+use Rattle.adr_values.specs.declared.content.Value.{Value as Datum}
+use Rattle.adr_values.specs.declared.content.Value.TheVariants.{Text, Number, Flag, Octets, Ref}
+use Rattle.adr_values.specs.declared.content.Content.TheVariants.{Values}
+use Rattle.adr_values.specs.declared.table.Syntax.{Syntax}
+use Rattle.adr_values.specs.declared.table.Syntax.TheVariants.{Text as OfText, Number as OfNumber, Flag as OfFlag, Octets as OfOctets, Ref as OfRef}
+use Rattle.adr_values.specs.declared.table.Kind.{Kind}
+use Rattle.adr_values.specs.declared.table.Kind.TheVariants.{Reserved, Plain, Forward, Back}
+use Rattle.adr_values.specs.Table.{Table, Attribute, Class as ClassOf, class_at, attribute_at, kind_at, is_forward}
+use Rattle.adr_values.specs.Schemas.{schema_1, schema_2}
+use Rattle.adr_values.specs.Numbered.{numbered}
+use Rattle.adr_values.specs.Names.{name_fault, is_wrong_byte}
+use Rattle.adr_values.specs.Places.{first_place}
+use Rattle.adr_values.specs.Values.{fits, is_within}
+use Rattle.adr_values.specs.Allowed.{IsAllowed}
 use Rattle.adr_wire.specs.Ranges.{IsU16, IsValue, IsContent}
 use Rattle.adr_model.specs.Member.{Each}
 use Rattle.adr_model.specs.Update.{deleted_attr}

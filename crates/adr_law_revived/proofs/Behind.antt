@@ -1,7 +1,7 @@
 -- Which rows stand behind a revival: those that were held, those of the object and those of its links.
 use Rattle.std.proofs.Common.{◌≡◌, ◌⊎◌, inl, inr, ⊎_elim, ℕ, ◌+◌, List, [], ◌∷◌, true, None, refl, sym, ap, ◌∙◌, subst, arith}
-use Rattle.adr_stamp.specs.declared.Oid.{Oid}
-use Rattle.adr_stamp.specs.declared.LinkKey.{LinkKey}
+use Rattle.adr_values.specs.declared.stamp.Oid.{Oid}
+use Rattle.adr_values.specs.declared.stamp.LinkKey.{LinkKey}
 use Rattle.adr_model.specs.Member.{Member, Each}
 use Rattle.adr_model.specs.Update.{Identifier, RowOf, LinkOf, IsPresent, Update, deleted_attr}
 use Rattle.adr_model.specs.Store.{Held, Store, State, updates_of}

@@ -1,9 +1,9 @@
 -- The object that is revived is the live one of its GUID.
 use Rattle.std.proofs.Common.{◌≡◌, inl, inr, ◌⊎◌, true, false, ℕ, ◌+◌, List, [], Option, Some, None, is_some, refl, sym, ap, ◌∙◌, subst}
 use Rattle.std.proofs.lemmas.Cmp.{nat_list_cmp_total}
-use Rattle.adr_stamp.specs.Order.{identifier_order}
-use Rattle.adr_stamp.specs.declared.Oid.{Oid}
-use Rattle.adr_schema.specs.declared.content.Content.TheVariants.{Name}
+use Rattle.adr_values.specs.Order.{identifier_order}
+use Rattle.adr_values.specs.declared.stamp.Oid.{Oid}
+use Rattle.adr_values.specs.declared.content.Content.TheVariants.{Name}
 use Rattle.adr_call.specs.declared.refusal.WriteRefusal.TheVariants.{StillLive}
 use Rattle.adr_model.specs.Member.{Member}
 use Rattle.adr_model.specs.Update.{Identifier, Update, RowOf, class_attr, name_attr, deleted_attr, same_identifier}

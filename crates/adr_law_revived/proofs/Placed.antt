@@ -3,8 +3,8 @@ use Rattle.std.proofs.Common.{◌≡◌, ◌⊎◌, inl, inr, Bool, true, false,
 use Rattle.std.specs.List.{list_any}
 use Rattle.std.specs.Option.{option_map}
 use Rattle.std.proofs.lemmas.Bool.{and_parts, and_from, or_parts}
-use Rattle.adr_schema.specs.Table.{is_superior}
-use Rattle.adr_schema.specs.Numbered.{numbered}
+use Rattle.adr_values.specs.Table.{is_superior}
+use Rattle.adr_values.specs.Numbered.{numbered}
 use Rattle.adr_call.specs.declared.refusal.WriteRefusal.{WriteRefusal}
 use Rattle.adr_call.specs.declared.refusal.WriteRefusal.TheVariants.{Fixed, NoParent, WouldLoop, BadSuperior, NameTaken}
 use Rattle.adr_model.specs.Member.{Member, Each}

@@ -1,7 +1,7 @@
 -- What a revival is of: what was held, the new object, the links and the rows that come, and the state behind it.
 use Rattle.std.proofs.Common.{◌≡◌, ℕ, List, None}
-use Rattle.adr_stamp.specs.declared.Oid.{Oid}
-use Rattle.adr_stamp.specs.declared.LinkKey.{LinkKey}
+use Rattle.adr_values.specs.declared.stamp.Oid.{Oid}
+use Rattle.adr_values.specs.declared.stamp.LinkKey.{LinkKey}
 use Rattle.adr_model.specs.Update.{Identifier, Update}
 use Rattle.adr_model.specs.Store.{Store, State, updates_of}
 use Rattle.adr_model.specs.Change.{after}

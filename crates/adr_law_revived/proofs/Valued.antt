@@ -6,9 +6,9 @@ use Rattle.std.specs.Ordering.{nat_cmp}
 use Rattle.std.specs.declared.cmp.Ordering.{Ordering}
 use Rattle.std.specs.declared.cmp.Ordering.TheVariants.{Less, Equal}
 use Rattle.std.proofs.lemmas.Cmp.{nat_cmp_total, tied_itself}
-use Rattle.adr_stamp.specs.declared.Oid.{Oid}
-use Rattle.adr_schema.specs.Assignments.{Given, attributes}
-use Rattle.adr_schema.specs.Table.{Table}
+use Rattle.adr_values.specs.declared.stamp.Oid.{Oid}
+use Rattle.adr_values.specs.Assignments.{Given, attributes}
+use Rattle.adr_values.specs.Table.{Table}
 use Rattle.adr_model.specs.Member.{Member, Each}
 use Rattle.adr_model.specs.Update.{Update, RowOf, Identifier, same_identifier, Holds}
 use Rattle.adr_model.specs.Live.{live_rows}
@@ -23,8 +23,8 @@ use Rattle.adr_law_knowledge.specs.Rises.{Rises}
 use Rattle.adr_law_knowledge.proofs.Lists.{same_members_one_list}
 use Rattle.adr_law_calls.proofs.Shown.{IsShown, shown, row_is_shown}
 use Rattle.adr_law_calls.proofs.Reviving.{absent, of_new}
-use Rattle.adr_schema.specs.declared.content.Content.TheVariants.{Class, Name, Values}
-use Rattle.adr_schema.specs.Numbered.{numbered}
+use Rattle.adr_values.specs.declared.content.Content.TheVariants.{Class, Name, Values}
+use Rattle.adr_values.specs.Numbered.{numbered}
 use Rattle.adr_call.specs.declared.directory.Entry.{Entry}
 use Rattle.adr_model.proofs.Members.{mapped_member, member_mapped}
 use Rattle.adr_law_knowledge.proofs.Refusing.{answered}

@@ -1,14 +1,14 @@
 -- What a revival makes of the directory: one entry more, and links to it.
 use Rattle.std.specs.Prelude.{◌≡◌, ℕ, List, [], ◌∷◌, true, false, Option, Some, None, Ok, not, filter}
 use Rattle.std.specs.List.{find, filter_map, flat_map}
-use Rattle.adr_stamp.specs.declared.Oid.{Oid}
-use Rattle.adr_stamp.specs.declared.LinkKey.{LinkKey}
+use Rattle.adr_values.specs.declared.stamp.Oid.{Oid}
+use Rattle.adr_values.specs.declared.stamp.LinkKey.{LinkKey}
 use Rattle.adr_call.specs.declared.directory.Entry.{Entry}
 use Rattle.adr_model.specs.Member.{Each}
 use Rattle.adr_model.specs.Update.{Identifier, LinkOf, IsPresent, same_identifier}
 use Rattle.adr_model.specs.Place.{Node, node_at, place}
 use Rattle.adr_model.specs.Live.{live_rows}
-use Rattle.adr_schema.specs.Assignments.{Given}
+use Rattle.adr_values.specs.Assignments.{Given}
 use Rattle.adr_model.specs.Shown.{shown_name}
 use Rattle.adr_model.specs.Directory.{values_at, link_ends, gathered, directory}
 use Rattle.adr_model.specs.Store.{Store, State, updates_of}

@@ -6,10 +6,10 @@ use Rattle.std.specs.Option.{option_map, option_map_or}
 use Rattle.std.specs.BTreeMap.{is_at}
 use Rattle.std.proofs.lemmas.Bool.{lt-ltb, eq-eqb}
 use Rattle.std.proofs.lemmas.Bool.Decides.{nat_tests}
-use Rattle.adr_stamp.specs.Order.{identifier_order}
-use Rattle.adr_vector.specs.Vector.{at, first_gap}
-use Rattle.adr_vector.specs.declared.mark.Mark.{Mark}
-use Rattle.adr_vector.proofs.Cursors.{test_itself}
+use Rattle.adr_values.specs.Order.{identifier_order}
+use Rattle.adr_values.specs.Vector.{at, first_gap}
+use Rattle.adr_values.specs.declared.mark.Mark.{Mark}
+use Rattle.adr_values.proofs.Cursors.{test_itself}
 use Rattle.adr_call.specs.declared.refusal.ServeRefusal.TheVariants as serves
 use Rattle.adr_call.specs.declared.refusal.TakeRefusal.TheVariants as takes
 use Rattle.adr_model.specs.Member.{Each}

@@ -1,7 +1,7 @@
 -- A quarantined controller refuses everything.
 use Rattle.std.proofs.Common.{◌≡◌, List, ◌∷◌, Bool, true, Option, Some, None, ap, if◌then◌else◌}
 use Rattle.std.specs.Bool.{then_some}
-use Rattle.adr_failure.specs.First.{first_of}
+use Rattle.adr_values.specs.First.{first_of}
 use Rattle.adr_call.specs.declared.refusal.WriteRefusal.{WriteRefusal}
 use Rattle.adr_call.specs.declared.refusal.WriteRefusal.TheVariants as writes
 use Rattle.adr_call.specs.declared.refusal.ServeRefusal.TheVariants as serves

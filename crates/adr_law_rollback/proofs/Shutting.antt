@@ -4,7 +4,7 @@ use Rattle.adr_call.specs.declared.outcome.Outcome.{Outcome}
 use Rattle.adr_call.specs.declared.refusal.Table.TheVariants.{Log}
 use Rattle.adr_call.specs.declared.refusal.ServeRefusal.TheVariants as serves
 use Rattle.adr_call.specs.declared.refusal.TakeRefusal.TheVariants as takes
-use Rattle.adr_vector.specs.Vector.{at}
+use Rattle.adr_values.specs.Vector.{at}
 use Rattle.adr_model.specs.Change.{Change, after}
 use Rattle.adr_model.specs.Lengths.{log_limit}
 use Rattle.adr_model.specs.Collect.{quarantine}

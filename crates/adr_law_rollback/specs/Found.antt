@@ -1,6 +1,6 @@
 -- Who finds out that a controller's database was put back without a fresh identifier: whoever has seen more of its incarnation than it has itself.
 use Rattle.std.specs.Prelude.{◌≡◌, ◌<◌, ℕ, true, Some, None, Err}
-use Rattle.adr_vector.specs.Vector.{Cursors, at, at_most}
+use Rattle.adr_values.specs.Vector.{Cursors, at, at_most}
 use Rattle.adr_call.specs.declared.refusal.ServeRefusal.TheVariants as serves
 use Rattle.adr_call.specs.declared.refusal.TakeRefusal.TheVariants as takes
 use Rattle.adr_model.specs.Store.{Normal, Quarantined, State, kept_of, mark_of}

@@ -2,8 +2,8 @@
 use Rattle.std.proofs.Common.{◌≡◌, ◌≢◌, ◌⊎◌, inl, inr, ⊎_elim, ℕ, ◌≤◌, List, [], ◌∷◌, Bool, true, false, ◌&&◌, refl, sym, ap, ◌∙◌, subst, max, arith}
 use Rattle.std.specs.Str.{bytes_eq}
 use Rattle.std.proofs.lemmas.Bool.{and_parts, or_cases}
-use Rattle.adr_vector.specs.Vector.{IsVector, at}
-use Rattle.adr_vector.proofs.Cursors.{same_cursors}
+use Rattle.adr_values.specs.Vector.{IsVector, at}
+use Rattle.adr_values.proofs.Cursors.{same_cursors}
 use Rattle.adr_model.specs.Member.{Member, Each}
 use Rattle.adr_model.specs.Update.{Identifier}
 use Rattle.adr_model.specs.Reflects.{Numbers, AtMost}

@@ -1,7 +1,7 @@
 -- What a whole cycle leaves.
 use Rattle.std.proofs.Common.{◌≡◌, ◌⊎◌, inl, inr, ⊎_elim, ℕ, zero, suc, ◌≤◌, List, true, false, Option, Some, None, is_none, refl, sym, ap, subst, arith}
 use Rattle.std.specs.Prelude.{codes}
-use Rattle.adr_vector.specs.Vector.{Cursors, at_most}
+use Rattle.adr_values.specs.Vector.{Cursors, at_most}
 use Rattle.adr_event.specs.declared.answer.Answer.{Answer}
 use Rattle.adr_call.specs.declared.outcome.Outcome.{Outcome}
 use Rattle.adr_call.specs.declared.outcome.Outcome.TheVariants as outcomes

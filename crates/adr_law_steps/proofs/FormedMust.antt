@@ -2,9 +2,9 @@
 use Rattle.std.proofs.Common.{◌≡◌, ℕ, ◌<◌, List, [], ◌∷◌, Bool, true, false, refl, ◌==◌, nat_le, ◌||◌, if◌then◌else◌, Some, cond, find, arith}
 use Rattle.std.specs.Option.{option_map_or}
 use Rattle.std.proofs.lemmas.Bool.{eqb-true}
-use Rattle.adr_schema.specs.Table.{Class, has, must_of}
-use Rattle.adr_schema.specs.Numbered.{numbered}
-use Rattle.adr_schema.specs.Schemas.{schema_1, schema_2}
+use Rattle.adr_values.specs.Table.{Class, has, must_of}
+use Rattle.adr_values.specs.Numbered.{numbered}
+use Rattle.adr_values.specs.Schemas.{schema_1, schema_2}
 use Rattle.adr_model.specs.Update.{deleted_attr}
 
 abbrev AreAbove : List ℕ → Type 0

@@ -1,7 +1,7 @@
 -- An object whose rows are the same is as well formed as before.
 use Rattle.std.proofs.Common.{◌≡◌, inl, inr, ℕ, List, true}
-use Rattle.adr_stamp.specs.declared.Oid.{Oid}
-use Rattle.adr_schema.specs.Table.{Table}
+use Rattle.adr_values.specs.declared.stamp.Oid.{Oid}
+use Rattle.adr_values.specs.Table.{Table}
 use Rattle.adr_model.specs.Member.{Member, Each}
 use Rattle.adr_model.specs.Update.{RowOf, Update, Said, class_attr, deleted_attr}
 use Rattle.adr_model.specs.Reflects.{HoldsObject, IsTombstoned}

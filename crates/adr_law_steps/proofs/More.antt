@@ -2,13 +2,13 @@
 use Rattle.std.proofs.Common.{◌≡◌, inl, inr, ℕ, List, [], Bool, true, false, ◌||◌, Option, Some, None, is_some, refl, sym, ap, ◌∙◌}
 use Rattle.std.specs.Option.{option_map_or}
 use Rattle.std.proofs.lemmas.Bool.{or_left, or_right}
-use Rattle.adr_stamp.specs.declared.Oid.{Oid}
-use Rattle.adr_schema.specs.declared.content.Value.{Value as Datum}
-use Rattle.adr_schema.specs.declared.table.Kind.{Kind}
-use Rattle.adr_schema.specs.declared.table.Kind.TheVariants.{Reserved, Plain, Forward, Back}
-use Rattle.adr_schema.specs.Table.{Table, Class as ClassOf, class_at, must_of, may_of, has, is_of, kind_at, is_forward}
-use Rattle.adr_schema.specs.Allowed.{IsAllowed}
-use Rattle.adr_schema.specs.Extends.{Extends}
+use Rattle.adr_values.specs.declared.stamp.Oid.{Oid}
+use Rattle.adr_values.specs.declared.content.Value.{Value as Datum}
+use Rattle.adr_values.specs.declared.table.Kind.{Kind}
+use Rattle.adr_values.specs.declared.table.Kind.TheVariants.{Reserved, Plain, Forward, Back}
+use Rattle.adr_values.specs.Table.{Table, Class as ClassOf, class_at, must_of, may_of, has, is_of, kind_at, is_forward}
+use Rattle.adr_values.specs.Allowed.{IsAllowed}
+use Rattle.adr_values.specs.Extends.{Extends}
 use Rattle.adr_model.specs.Update.{Update}
 use Rattle.adr_model.specs.Formed.{KeepsSchema, IsObjectFormed, AreFormedRows}
 use Rattle.adr_model.specs.Sound.{AreClassesKnown}

@@ -2,8 +2,8 @@
 use Rattle.std.proofs.Common.{◌≡◌, ◌⊎◌, inl, inr, ⊎_elim, ℕ, List, [], ◌∷◌, true, false, refl, sym, ap, ◌∙◌, subst, arith, fold, map}
 use Rattle.std.specs.List.Sorted.{IsStrictlySortedBy}
 use Rattle.std.specs.declared.cmp.Ordering.TheVariants.{Less}
-use Rattle.adr_stamp.specs.declared.Oid.{Oid}
-use Rattle.adr_stamp.specs.declared.Unit.{Unit as Named}
+use Rattle.adr_values.specs.declared.stamp.Oid.{Oid}
+use Rattle.adr_values.specs.declared.stamp.Unit.{Unit as Named}
 use Rattle.adr_model.specs.Member.{Member, Each}
 use Rattle.adr_model.specs.Update.{RowOf, Update, key_order, ends, unit_of, deleted_attr}
 use Rattle.adr_model.specs.Reflects.{Numbers, AtMost, Knowledge, IsDeath, IsDeathOf, HoldsAtLeast, HoldsObject, IsTombstoned, IsPurged}

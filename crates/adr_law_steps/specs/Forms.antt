@@ -1,11 +1,11 @@
 -- Rows of one object that keep to a schema, where the object is held and where it comes.
 use Rattle.std.specs.Prelude.{◌≡◌, ◌⊎◌, ◌<◌, ℕ, List, true, None, IsSome}
-use Rattle.adr_stamp.specs.declared.Oid.{Oid}
-use Rattle.adr_schema.specs.declared.content.Value.{Value as Datum}
-use Rattle.adr_schema.specs.declared.content.Content.TheVariants.{Class, Name, Dead, Values}
-use Rattle.adr_schema.specs.Table.{Table, has, class_at, must_of}
-use Rattle.adr_schema.specs.Allowed.{MayBeHeld}
-use Rattle.adr_schema.specs.Names.{name_fault}
+use Rattle.adr_values.specs.declared.stamp.Oid.{Oid}
+use Rattle.adr_values.specs.declared.content.Value.{Value as Datum}
+use Rattle.adr_values.specs.declared.content.Content.TheVariants.{Class, Name, Dead, Values}
+use Rattle.adr_values.specs.Table.{Table, has, class_at, must_of}
+use Rattle.adr_values.specs.Allowed.{MayBeHeld}
+use Rattle.adr_values.specs.Names.{name_fault}
 use Rattle.adr_model.specs.Member.{Member, Each}
 use Rattle.adr_model.specs.Update.{Identifier, Update, RowOf, Holds, class_attr, name_attr, deleted_attr}
 use Rattle.adr_model.specs.Reflects.{HoldsObject, IsTombstoned, IsDeathOf}

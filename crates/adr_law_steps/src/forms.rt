@@ -1,11 +1,11 @@
 //! Objects and links that stay as a schema wants them, and closed.
 
 ghost use Rattle.std.specs.Prelude.{◌≡◌, ◌⊎◌, ℕ, List, true};
-ghost use Rattle.adr_stamp.specs.declared.Oid.{Oid};
-ghost use Rattle.adr_stamp.specs.declared.LinkKey.{LinkKey};
-ghost use Rattle.adr_stamp.specs.declared.Unit.TheVariants.{Object, Link};
-ghost use Rattle.adr_schema.specs.Table.{kind_at, is_forward};
-ghost use Rattle.adr_schema.specs.Numbered.{numbered};
+ghost use Rattle.adr_values.specs.declared.stamp.Oid.{Oid};
+ghost use Rattle.adr_values.specs.declared.stamp.LinkKey.{LinkKey};
+ghost use Rattle.adr_values.specs.declared.stamp.Unit.TheVariants.{Object, Link};
+ghost use Rattle.adr_values.specs.Table.{kind_at, is_forward};
+ghost use Rattle.adr_values.specs.Numbered.{numbered};
 ghost use Rattle.adr_model.specs.Member.{Each};
 ghost use Rattle.adr_model.specs.Update.{Update, LinkOf, ends};
 ghost use Rattle.adr_model.specs.Reflects.{Numbers, CoversBirth, HoldsObject, IsTombstoned};

@@ -1,8 +1,8 @@
 //! What stands after rows of one unit were put.
 
 ghost use Rattle.std.specs.Prelude.{◌≡◌, ◌≤◌, ◌<◌, ℕ, List, fold};
-ghost use Rattle.adr_stamp.specs.declared.Oid.{Oid};
-ghost use Rattle.adr_stamp.specs.declared.Unit.{Unit as Named};
+ghost use Rattle.adr_values.specs.declared.stamp.Oid.{Oid};
+ghost use Rattle.adr_values.specs.declared.stamp.Unit.{Unit as Named};
 ghost use Rattle.adr_model.specs.Member.{Each};
 ghost use Rattle.adr_model.specs.Update.{Update};
 ghost use Rattle.adr_model.specs.Reflects.{Numbers, AtMost, HoldsObject};

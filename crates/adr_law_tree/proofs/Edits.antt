@@ -2,7 +2,7 @@
 use Rattle.std.proofs.Common.{◌≡◌, Bool, true, false, cond, not, ◌||◌, List, [], ◌∷◌, Option, Some, None, refl, sym, ap, ◌∙◌, filter, fold, ◌==◌}
 use Rattle.std.specs.Prelude.{if◌then◌else◌, nat_lt}
 use Rattle.std.specs.List.{list_any}
-use Rattle.adr_stamp.specs.declared.Oid.{Oid}
+use Rattle.adr_values.specs.declared.stamp.Oid.{Oid}
 use Rattle.adr_model.specs.Update.{Identifier, Key, RowOf, LinkOf, same_identifier, deleted_attr}
 use Rattle.adr_model.specs.Live.{live_rows}
 use Rattle.adr_model.specs.Place.{nodes_of, node_at}

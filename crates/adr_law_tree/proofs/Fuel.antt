@@ -3,7 +3,7 @@ use Rattle.std.proofs.Common.{◌≡◌, ◌⊎◌, inl, inr, ℕ, zero, suc, �
 use Rattle.std.specs.Ordering.{is_eq}
 use Rattle.std.proofs.lemmas.Cmp.{tied_itself, nat_list_cmp_total}
 use Rattle.std.proofs.lemmas.Map.Lookups.{exact_bytes}
-use Rattle.adr_stamp.specs.Order.{identifier_order}
+use Rattle.adr_values.specs.Order.{identifier_order}
 use Rattle.adr_model.specs.Update.{Identifier, same_identifier}
 use Rattle.adr_model.specs.Place.{Node, node_at}
 use Rattle.adr_model.proofs.Keys.{equal_order}

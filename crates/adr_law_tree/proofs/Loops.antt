@@ -5,8 +5,8 @@ use Rattle.std.specs.Option.{option_map_or}
 use Rattle.std.specs.Ordering.{is_eq}
 use Rattle.std.proofs.lemmas.Bool.{and_from, and_parts, or_cases, or_left, or_right, not-true}
 use Rattle.std.proofs.lemmas.Cmp.{tied_itself}
-use Rattle.adr_stamp.specs.declared.Oid.{Oid}
-use Rattle.adr_stamp.specs.contracts.OidOrd.TheImpl.Laws.{total-law as objects_total}
+use Rattle.adr_values.specs.declared.stamp.Oid.{Oid}
+use Rattle.adr_values.specs.contracts.stamp.OidOrd.TheImpl.Laws.{total-law as objects_total}
 use Rattle.adr_model.specs.Member.{Member}
 use Rattle.adr_model.specs.Update.{Identifier, same_object}
 use Rattle.adr_model.specs.Place.{Node, node_at, first_place, upward, above, is_fixed, named_before, breaks_loop, lost_and_found}

@@ -4,8 +4,8 @@ use Rattle.std.specs.declared.cmp.Ordering.TheVariants.{Less}
 use Rattle.std.specs.Cmp.Lexicographic.{bytes_decides}
 use Rattle.std.proofs.lemmas.Cmp.{nat_list_cmp_total}
 use Rattle.std.proofs.lemmas.Bool.{and_from, and_parts, or_right, or_from, not-true}
-use Rattle.adr_stamp.specs.Order.{identifier_order}
-use Rattle.adr_schema.specs.Folding.{folded}
+use Rattle.adr_values.specs.Order.{identifier_order}
+use Rattle.adr_values.specs.Folding.{folded}
 use Rattle.adr_model.specs.Member.{Member}
 use Rattle.adr_model.specs.Update.{Identifier, same_identifier}
 use Rattle.adr_model.specs.Place.{Node, node_at, first_place, place, named_before, breaks_loop, lost_and_found}

@@ -1,7 +1,7 @@
 -- Sets that are kept beside the nodes.
 use Rattle.std.proofs.Common.{◌≡◌, ⊎_elim, Bool, true, false, not, ◌&&◌, ◌||◌, List, Option, Some, None, refl, sym, ap, ap₂, ◌∙◌, subst}
 use Rattle.std.specs.Option.{option_map_or}
-use Rattle.adr_stamp.specs.declared.Oid.{Oid}
+use Rattle.adr_values.specs.declared.stamp.Oid.{Oid}
 use Rattle.adr_model.specs.Update.{Identifier, same_identifier, same_object}
 use Rattle.adr_model.specs.Place.{Node, node_at, breaks_loop}
 use Rattle.adr_model.proofs.Keys.{objects_tell}

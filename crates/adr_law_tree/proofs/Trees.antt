@@ -4,8 +4,8 @@ use Rattle.std.specs.Prelude.{if◌then◌else◌, nat_le}
 use Rattle.std.specs.List.{list_all}
 use Rattle.std.specs.Option.{option_map_or}
 use Rattle.std.proofs.lemmas.Bool.{and_parts, not-true}
-use Rattle.adr_schema.specs.Table.{Class, has, is_superior}
-use Rattle.adr_schema.specs.Schemas.{schema_1, schema_2}
+use Rattle.adr_values.specs.Table.{Class, has, is_superior}
+use Rattle.adr_values.specs.Schemas.{schema_1, schema_2}
 use Rattle.adr_model.specs.Store.{updates_of}
 use Rattle.adr_law_tree.specs.Kept.{TreeLaw, LostSuperiorLaw}
 use Rattle.adr_law_tree.specs.Edits.{tree_of}

@@ -8,12 +8,12 @@ use Rattle.std.specs.declared.cmp.Ordering.TheVariants.{Less, Equal, Greater}
 use Rattle.std.specs.Cmp.{IsTotalOrder}
 use Rattle.std.proofs.lemmas.Cmp.{tied_itself, nat_list_cmp_total, on_total, then_total}
 use Rattle.std.proofs.lemmas.Bool.{not-true}
-use Rattle.adr_stamp.specs.Order.{object_order, identifier_order, birth_order, link_stamp_order}
-use Rattle.adr_stamp.specs.declared.Oid.{Oid}
-use Rattle.adr_stamp.specs.declared.LinkStamp.{LinkStamp}
-use Rattle.adr_stamp.specs.contracts.BirthOrd.TheImpl.Laws.{total-law as births_total}
-use Rattle.adr_stamp.specs.contracts.LinkStampOrd.TheImpl.Laws.{total-law as link_stamps_total}
-use Rattle.adr_stamp.proofs.Exact.{exact_objects}
+use Rattle.adr_values.specs.Order.{object_order, identifier_order, birth_order, link_stamp_order}
+use Rattle.adr_values.specs.declared.stamp.Oid.{Oid}
+use Rattle.adr_values.specs.declared.stamp.LinkStamp.{LinkStamp}
+use Rattle.adr_values.specs.contracts.stamp.BirthOrd.TheImpl.Laws.{total-law as births_total}
+use Rattle.adr_values.specs.contracts.stamp.LinkStampOrd.TheImpl.Laws.{total-law as link_stamps_total}
+use Rattle.adr_values.proofs.ExactOrders.{exact_objects}
 use Rattle.adr_model.specs.Member.{Member}
 use Rattle.adr_model.specs.Update.{Key, RowOf, Update, same_identifier, same_object, same_key, is_older, class_attr, is_death_of}
 use Rattle.adr_model.specs.Winner.{winner, younger, or_younger}

@@ -5,8 +5,8 @@ use Rattle.std.specs.declared.cmp.Ordering.{Ordering}
 use Rattle.std.specs.declared.cmp.Ordering.TheVariants.{Less, Equal, Greater}
 use Rattle.std.specs.Cmp.{IsTotalOrder}
 use Rattle.std.proofs.lemmas.Cmp.{tied_itself, nat_list_cmp_total, on_total, then_total, upto}
-use Rattle.adr_stamp.specs.Order.{identifier_order, link_stamp_order}
-use Rattle.adr_stamp.specs.contracts.LinkStampOrd.TheImpl.Laws.{total-law as link_stamps_total}
+use Rattle.adr_values.specs.Order.{identifier_order, link_stamp_order}
+use Rattle.adr_values.specs.contracts.stamp.LinkStampOrd.TheImpl.Laws.{total-law as link_stamps_total}
 use Rattle.adr_model.specs.Member.{Member}
 use Rattle.adr_model.specs.Update.{same_identifier}
 use Rattle.adr_model.specs.Place.{Node, named_before}

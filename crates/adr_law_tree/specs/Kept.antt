@@ -1,7 +1,7 @@
 -- A list of nodes that is kept is that of the definitions.
 use Rattle.std.specs.Prelude.{◌≡◌, ℕ, List, false}
-use Rattle.adr_schema.specs.Numbered.{numbered}
-use Rattle.adr_schema.specs.Table.{is_superior}
+use Rattle.adr_values.specs.Numbered.{numbered}
+use Rattle.adr_values.specs.Table.{is_superior}
 use Rattle.adr_model.specs.Update.{Identifier}
 use Rattle.adr_model.specs.Place.{Node, node_at}
 use Rattle.adr_model.specs.Store.{Held}

@@ -1,7 +1,7 @@
 -- The first of several refusals, taken one after the other.
 use Rattle.std.proofs.Common.{◌≡◌, List, [], ◌∷◌, Option, None, Some, refl}
 use Rattle.std.specs.Option.{option_or}
-use Rattle.adr_failure.specs.First.{first_of}
+use Rattle.adr_values.specs.First.{first_of}
 
 module _ {A : Type 0} where
   pub first_of_one : (a : Option A) → a ≡ first_of (a ∷ [])

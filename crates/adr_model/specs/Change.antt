@@ -2,10 +2,10 @@
 use Rattle.std.specs.Prelude.{ℕ, List, [], map, fold, filter, Bool, false, not, ◌||◌, ◌==◌, nat_lt, Option, Some, None, if◌then◌else◌}
 use Rattle.std.specs.List.{flat_map}
 use Rattle.std.specs.BTreeMap.{insert_entry}
-use Rattle.adr_stamp.specs.Order.{identifier_order}
-use Rattle.adr_stamp.specs.declared.Oid.{Oid}
-use Rattle.adr_stamp.specs.declared.Unit.{Unit as Named}
-use Rattle.adr_vector.specs.Vector.{Cursors, joined, raised}
+use Rattle.adr_values.specs.Order.{identifier_order}
+use Rattle.adr_values.specs.declared.stamp.Oid.{Oid}
+use Rattle.adr_values.specs.declared.stamp.Unit.{Unit as Named}
+use Rattle.adr_values.specs.Vector.{Cursors, joined, raised}
 use Rattle.adr_model.specs.Update.{Identifier, Key, RowOf, LinkOf, Update, same_object, deleted_attr}
 use Rattle.adr_model.specs.Store.{Held, PartnerMark, Mode, Normal, Store, State, with_row, is_row_of}
 

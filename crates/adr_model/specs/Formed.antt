@@ -1,16 +1,16 @@
 -- Well-formed stores and states.
 use Rattle.std.specs.Prelude.{◌≡◌, ◌⊎◌, ◌≤◌, ◌<◌, ℕ, List, ◌∷◌, length, map, true, None, IsSome}
 use Rattle.std.specs.List.Sorted.{IsStrictlySortedBy}
-use Rattle.adr_stamp.specs.declared.Oid.{Oid}
-use Rattle.adr_stamp.specs.declared.LinkKey.{LinkKey}
-use Rattle.adr_schema.specs.declared.content.Value.{Value as Datum}
-use Rattle.adr_schema.specs.declared.content.Content.TheVariants.{Class, Name, Dead, Values}
-use Rattle.adr_schema.specs.Table.{Table, has, class_at, must_of, kind_at, is_forward}
-use Rattle.adr_schema.specs.Allowed.{IsAllowed}
-use Rattle.adr_schema.specs.Names.{name_fault}
-use Rattle.adr_schema.specs.Numbered.{numbered}
-use Rattle.adr_vector.specs.Vector.{IsVector, at, at_most}
-use Rattle.adr_vector.specs.Times.{AreTimesOf}
+use Rattle.adr_values.specs.declared.stamp.Oid.{Oid}
+use Rattle.adr_values.specs.declared.stamp.LinkKey.{LinkKey}
+use Rattle.adr_values.specs.declared.content.Value.{Value as Datum}
+use Rattle.adr_values.specs.declared.content.Content.TheVariants.{Class, Name, Dead, Values}
+use Rattle.adr_values.specs.Table.{Table, has, class_at, must_of, kind_at, is_forward}
+use Rattle.adr_values.specs.Allowed.{IsAllowed}
+use Rattle.adr_values.specs.Names.{name_fault}
+use Rattle.adr_values.specs.Numbered.{numbered}
+use Rattle.adr_values.specs.Vector.{IsVector, at, at_most}
+use Rattle.adr_values.specs.Times.{AreTimesOf}
 use Rattle.adr_model.specs.Member.{Member, Each}
 use Rattle.adr_model.specs.Update.{Identifier, Update, RowOf, LinkOf, Said, Holds, key_order, unit_of, ends, class_attr, name_attr, deleted_attr}
 use Rattle.adr_model.specs.Live.{objects_of}

@@ -2,7 +2,7 @@
 use Rattle.std.specs.Prelude.{◌≢◌, List, []}
 use Rattle.std.specs.List.Sorted.{IsStrictlySortedBy}
 use Rattle.std.specs.Ordering.{nat_cmp}
-use Rattle.adr_schema.specs.Assignments.{Given, attributes}
+use Rattle.adr_values.specs.Assignments.{Given, attributes}
 use Rattle.adr_model.specs.Write.{Write, AddObject, Modify, Rename, Delete, AddLink, RemoveLink, Revive}
 use Rattle.adr_model.specs.Formed.{IsFormedStore}
 

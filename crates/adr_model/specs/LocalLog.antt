@@ -1,6 +1,6 @@
 -- The local log of an incarnation: the changes that became safe, the rows that stood at each USN, and what a mark says of them.
 use Rattle.std.specs.Prelude.{◌≡◌, ◌⊎◌, ◌≤◌, ◌<◌, ℕ, List, [], ◌∷◌, Bool, true, false, nat_le, if◌then◌else◌}
-use Rattle.adr_vector.specs.declared.mark.Mark.{Mark}
+use Rattle.adr_values.specs.declared.mark.Mark.{Mark}
 use Rattle.adr_model.specs.Member.{Member, Each}
 use Rattle.adr_model.specs.Update.{Update, unit_of}
 use Rattle.adr_model.specs.Reflects.{Knowledge, Reflects}

@@ -2,9 +2,9 @@
 use Rattle.std.specs.Prelude.{ℕ, List, [], ◌∷◌, ◌++◌, ◌==◌, Option, Some, None, filter, flat_map, if◌then◌else◌, codes}
 use Rattle.std.specs.Option.{option_map_or}
 use Rattle.uuid.specs.Text.{hyphenated_text, lower}
-use Rattle.adr_stamp.specs.declared.Oid.{Oid}
-use Rattle.adr_stamp.specs.declared.LinkStamp.{LinkStamp}
-use Rattle.adr_schema.specs.declared.content.Content.TheVariants.{Class, Name, Dead as Death, Values}
+use Rattle.adr_values.specs.declared.stamp.Oid.{Oid}
+use Rattle.adr_values.specs.declared.stamp.LinkStamp.{LinkStamp}
+use Rattle.adr_values.specs.declared.content.Content.TheVariants.{Class, Name, Dead as Death, Values}
 use Rattle.adr_call.specs.declared.meta.Life.{Life}
 use Rattle.adr_call.specs.declared.meta.Life.TheVariants.{Live, Hidden, Dead}
 use Rattle.adr_call.specs.declared.meta.MetaLine.{MetaLine}

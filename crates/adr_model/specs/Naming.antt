@@ -1,8 +1,8 @@
 -- Which parts of a store name an identifier.
 use Rattle.std.specs.Prelude.{ℕ, List, Bool, ◌||◌}
 use Rattle.std.specs.List.{list_any}
-use Rattle.adr_stamp.specs.declared.Oid.{Oid}
-use Rattle.adr_vector.specs.Vector.{Cursors}
+use Rattle.adr_values.specs.declared.stamp.Oid.{Oid}
+use Rattle.adr_values.specs.Vector.{Cursors}
 use Rattle.adr_model.specs.Store.{Held, PartnerMark}
 use Rattle.adr_model.specs.Update.{Identifier, Key, ends, inv_of, same_identifier}
 

@@ -1,7 +1,7 @@
 -- What a store has taken into account: an update that it holds, or what supersedes it, and one of whose ends it holds the death, or collected it.
 use Rattle.std.specs.Prelude.{◌≡◌, ◌⊎◌, ◌≤◌, ℕ, List, false}
-use Rattle.adr_stamp.specs.declared.Oid.{Oid}
-use Rattle.adr_vector.specs.Vector.{at}
+use Rattle.adr_values.specs.declared.stamp.Oid.{Oid}
+use Rattle.adr_values.specs.Vector.{at}
 use Rattle.adr_model.specs.Member.{Member}
 use Rattle.adr_model.specs.Update.{Identifier, Update, RowOf, ends, inv_of, usn_of, is_older, deleted_attr}
 use Rattle.adr_model.specs.Store.{Store, updates_of}

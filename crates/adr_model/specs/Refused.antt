@@ -9,8 +9,8 @@ use Rattle.adr_call.specs.declared.refusal.Table.{Table}
 use Rattle.adr_call.specs.declared.refusal.Table.TheVariants as tables
 use Rattle.adr_call.specs.declared.refusal.WriteRefusal.{WriteRefusal}
 use Rattle.adr_call.specs.declared.refusal.WriteRefusal.TheVariants as writes
-use Rattle.adr_schema.specs.declared.refusal.SchemaRefusal.{SchemaRefusal}
-use Rattle.adr_schema.specs.declared.refusal.SchemaRefusal.TheVariants as schema
+use Rattle.adr_values.specs.declared.refusal.SchemaRefusal.{SchemaRefusal}
+use Rattle.adr_values.specs.declared.refusal.SchemaRefusal.TheVariants as schema
 use Rattle.adr_call.specs.declared.refusal.ItemFault.{ItemFault}
 use Rattle.adr_call.specs.declared.refusal.ItemFault.TheVariants as faults
 use Rattle.adr_call.specs.declared.refusal.ServeRefusal.{ServeRefusal}

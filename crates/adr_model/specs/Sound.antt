@@ -1,12 +1,12 @@
 -- The world of a run: what holds always, and what holds as long as no database was put back without a fresh identifier.
 use Rattle.std.specs.Prelude.{◌≡◌, ◌≢◌, ◌⊎◌, ◌≤◌, ℕ, List, true, Some, None, IsSome, IfSome}
-use Rattle.adr_schema.specs.Table.{Table, class_at}
-use Rattle.adr_schema.specs.Numbered.{numbered}
-use Rattle.adr_schema.specs.declared.content.Content.TheVariants.{Class}
-use Rattle.adr_stamp.specs.declared.Oid.{Oid}
-use Rattle.adr_vector.specs.Vector.{Cursors, IsVector, at}
-use Rattle.adr_vector.specs.Times.{AreTimesOf}
-use Rattle.adr_vector.specs.declared.mark.Mark.{Mark}
+use Rattle.adr_values.specs.Table.{Table, class_at}
+use Rattle.adr_values.specs.Numbered.{numbered}
+use Rattle.adr_values.specs.declared.content.Content.TheVariants.{Class}
+use Rattle.adr_values.specs.declared.stamp.Oid.{Oid}
+use Rattle.adr_values.specs.Vector.{Cursors, IsVector, at}
+use Rattle.adr_values.specs.Times.{AreTimesOf}
+use Rattle.adr_values.specs.declared.mark.Mark.{Mark}
 use Rattle.adr_model.specs.Member.{Member, Each}
 use Rattle.adr_model.specs.Update.{Identifier, Update, RowOf, Holds, ends, inv_of, usn_of, unit_of, class_attr}
 use Rattle.adr_model.specs.Place.{identifier}

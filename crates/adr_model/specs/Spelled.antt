@@ -2,10 +2,10 @@
 use Rattle.std.specs.Prelude.{◌≡◌, ◌≤◌, ◌<◌, ℕ, List, [], ◌∷◌, map, unwrap_or}
 use Rattle.std.specs.Option.{IfSome}
 use Rattle.std.specs.List.Sorted.{IsStrictlySortedBy}
-use Rattle.adr_schema.specs.declared.content.Content.{Content}
-use Rattle.adr_schema.specs.declared.content.Content.TheVariants.{Class, Name, Dead, Values}
-use Rattle.adr_vector.specs.Vector.{IsVector}
-use Rattle.adr_vector.specs.Times.{AreTimesOf}
+use Rattle.adr_values.specs.declared.content.Content.{Content}
+use Rattle.adr_values.specs.declared.content.Content.TheVariants.{Class, Name, Dead, Values}
+use Rattle.adr_values.specs.Vector.{IsVector}
+use Rattle.adr_values.specs.Times.{AreTimesOf}
 use Rattle.adr_model.specs.Member.{Member, Each}
 use Rattle.adr_model.specs.Update.{Key, RowOf, LinkOf, Said, Holds, IsPresent, Update, key_order, unit_of, class_attr, name_attr, deleted_attr}
 use Rattle.adr_model.specs.Change.{Item, Written, Change}

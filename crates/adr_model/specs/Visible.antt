@@ -1,8 +1,8 @@
 -- Which updates a vector covers (after MS-DRSR UPTODATE_VECTOR), and which issued updates a controller has in view.
 use Rattle.std.specs.Prelude.{List, Bool, filter, ◌&&◌, ◌||◌}
 use Rattle.std.specs.List.{list_any}
-use Rattle.adr_stamp.specs.declared.Oid.{Oid}
-use Rattle.adr_vector.specs.Vector.{Cursors, covers}
+use Rattle.adr_values.specs.declared.stamp.Oid.{Oid}
+use Rattle.adr_values.specs.Vector.{Cursors, covers}
 use Rattle.adr_model.specs.Update.{Update, inv_of, usn_of, at_least}
 
 -- whether the vector has seen the write that made the update

@@ -22,7 +22,7 @@ use Rattle.adr_model.specs.Meta.{meta}
 use Rattle.adr_model.specs.Update.{Identifier, Update}
 use Rattle.adr_model.specs.Visible.{visible}
 use Rattle.adr_model.specs.Directory.{directory}
-use Rattle.adr_vector.specs.declared.mark.Mark.{Mark}
+use Rattle.adr_values.specs.declared.mark.Mark.{Mark}
 use Rattle.adr_model.specs.Store.{PartnerMark, State, Store, updates_of}
 use Rattle.adr_model.specs.Change.{Change, Item}
 use Rattle.adr_model.specs.Serve.{Request, Reply, ask, serve}

@@ -4,21 +4,21 @@ use Rattle.std.specs.Bool.{then_some}
 use Rattle.std.specs.List.{list_any, find, filter_map, flat_map}
 use Rattle.std.specs.Option.{option_map, option_map_or, option_and_then}
 use Rattle.std.specs.BTreeSet.{insert_key}
-use Rattle.adr_stamp.specs.Order.{link_order}
-use Rattle.adr_stamp.specs.declared.Oid.{Oid}
-use Rattle.adr_stamp.specs.declared.LinkStamp.{LinkStamp}
-use Rattle.adr_stamp.specs.declared.LinkKey.{LinkKey}
-use Rattle.adr_stamp.specs.declared.Unit.TheVariants.{Object, Link as OneLink}
-use Rattle.adr_schema.specs.declared.content.Content.{Content}
-use Rattle.adr_schema.specs.declared.content.Content.TheVariants.{Class, Name, Dead, Values}
-use Rattle.adr_schema.specs.declared.table.Kind.{Kind}
-use Rattle.adr_schema.specs.declared.table.Kind.TheVariants.{Forward, Back}
-use Rattle.adr_schema.specs.Assignments.{Given}
-use Rattle.adr_schema.specs.Table.{Table as Schema, is_superior, kind_at}
-use Rattle.adr_schema.specs.Schemas.{newest}
-use Rattle.adr_schema.specs.Numbered.{numbered}
-use Rattle.adr_schema.specs.Rules.{add_refusal as schema_add_refusal, modify_refusal as schema_modify_refusal, link_refusal as schema_link_refusal, name_refusal as schema_name_refusal}
-use Rattle.adr_vector.specs.Vector.{raised, cursor_limit}
+use Rattle.adr_values.specs.Order.{link_order}
+use Rattle.adr_values.specs.declared.stamp.Oid.{Oid}
+use Rattle.adr_values.specs.declared.stamp.LinkStamp.{LinkStamp}
+use Rattle.adr_values.specs.declared.stamp.LinkKey.{LinkKey}
+use Rattle.adr_values.specs.declared.stamp.Unit.TheVariants.{Object, Link as OneLink}
+use Rattle.adr_values.specs.declared.content.Content.{Content}
+use Rattle.adr_values.specs.declared.content.Content.TheVariants.{Class, Name, Dead, Values}
+use Rattle.adr_values.specs.declared.table.Kind.{Kind}
+use Rattle.adr_values.specs.declared.table.Kind.TheVariants.{Forward, Back}
+use Rattle.adr_values.specs.Assignments.{Given}
+use Rattle.adr_values.specs.Table.{Table as Schema, is_superior, kind_at}
+use Rattle.adr_values.specs.Schemas.{newest}
+use Rattle.adr_values.specs.Numbered.{numbered}
+use Rattle.adr_values.specs.Rules.{add_refusal as schema_add_refusal, modify_refusal as schema_modify_refusal, link_refusal as schema_link_refusal, name_refusal as schema_name_refusal}
+use Rattle.adr_values.specs.Vector.{raised, cursor_limit}
 use Rattle.adr_call.specs.declared.write.Write.{Write as Asked}
 use Rattle.adr_call.specs.declared.write.Write.TheVariants as asked
 use Rattle.adr_call.specs.declared.directory.Entry.{Entry}
@@ -26,7 +26,7 @@ use Rattle.adr_call.specs.declared.refusal.Table.{Table}
 use Rattle.adr_call.specs.declared.refusal.Table.TheVariants.{Objects, Links, Cursors}
 use Rattle.adr_call.specs.declared.refusal.WriteRefusal.{WriteRefusal}
 use Rattle.adr_call.specs.declared.refusal.WriteRefusal.TheVariants.{Schema as BreaksSchema, Quarantined, Fixed, NoObject, Deleted, GuidThere, NoParent, BadSuperior, NameTaken, WouldLoop, HasChildren, LinkThere, LinkNotThere, VersionLimit, UsnLimit, Full, SchemaMismatch, NotInImage, StillLive, BirthThere}
-use Rattle.adr_failure.specs.First.{first_of}
+use Rattle.adr_values.specs.First.{first_of}
 use Rattle.adr_model.specs.Refusing.{unless}
 use Rattle.adr_model.specs.Update.{Identifier, Key, RowOf, LinkOf, Said, Holds, IsPresent, Update, same_identifier, same_object, ends, class_attr, name_attr, deleted_attr}
 use Rattle.adr_model.specs.Live.{objects_of, live_rows}

@@ -9,9 +9,9 @@ use crate::imaging::image_on;
 use crate::making::tell;
 use adr_call::Text;
 use adr_disk::Disk;
-use adr_guid::Guid;
 use adr_io::{Sink, Source};
 use adr_outside::Fresh;
+use adr_values::Guid;
 use std::alloc::Global;
 
 /// Makes a controller of the image that the source gives, on the disk of this name, which has to be empty, and writes the

@@ -7,8 +7,8 @@ ghost use Rattle.adr_wire.specs.Ranges.{IsId};
 
 use crate::ended::by_fault;
 use crate::making::Unmade;
-use adr_guid::Guid;
 use adr_outside::Fresh;
+use adr_values::Guid;
 
 /// One fresh identifier.
 fn draw_one<F: Fresh>(fresh: &mut F) -> Result<Guid, Unmade>

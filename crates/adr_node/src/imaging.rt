@@ -16,13 +16,13 @@ use crate::ended::{Refusal, by_fault};
 use crate::making::{Unmade, begin, find_empty};
 use adr_call::{Failure, Text};
 use adr_disk::Disk;
-use adr_guid::Guid;
 use adr_image::{Dormant, decode};
 use adr_io::{Source, read_at_most};
 use adr_law_recorded::adopted_states_are_logged;
 use adr_outside::Fresh;
 use adr_records::adopt;
 use adr_state::State;
+use adr_values::Guid;
 use std::alloc::Global;
 
 /// So many bytes of a source are read at most, one more than an image of a log may have: 4 GiB.

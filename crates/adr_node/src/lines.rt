@@ -6,8 +6,8 @@ ghost use Rattle.adr_node.specs.Lines.{damaged_line, refusal_line};
 
 use adr_answers::{push_number_behind, result_line};
 use adr_call::Outcome;
-use adr_failure::NoMemory;
 use adr_token::push;
+use adr_values::NoMemory;
 use std::alloc::Global;
 
 /// The line of a number behind some text.

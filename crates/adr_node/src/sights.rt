@@ -8,12 +8,12 @@ use crate::ended::Looked;
 use crate::lines::refusal_line;
 use adr_answers::{Heading, line};
 use adr_call::Text;
-use adr_failure::NoMemory;
 use adr_json::json;
 use adr_outcome::quarantined;
 use adr_records::image_of;
 use adr_state::State;
 use adr_token::push;
+use adr_values::NoMemory;
 use adr_view::{Report, directory, formed_rows_have_back_links, report};
 use std::alloc::Global;
 

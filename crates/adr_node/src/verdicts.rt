@@ -8,11 +8,11 @@ use crate::ended::Refusal;
 use crate::lines::{number_line, refusal_line};
 use adr_answers::{Heading, line};
 use adr_call::{Outcome, Table, Text};
-use adr_failure::NoMemory;
 use adr_image::DecodeRefusal;
 use adr_outcome::{adopt_refused, full};
 use adr_state::LOG_LIMIT;
 use adr_token::push;
+use adr_values::NoMemory;
 use std::alloc::Global;
 
 /// The line of a disk that has bytes.

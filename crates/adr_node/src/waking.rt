@@ -16,9 +16,9 @@ use crate::sights::{Sight, bytes_of, whole_of};
 use adr_call::Text;
 use adr_controller::{Controller, Keeper};
 use adr_disk::Disk;
-use adr_failure::NoMemory;
 use adr_io::{Fault, Sink};
 use adr_state::State;
+use adr_values::NoMemory;
 use std::alloc::Global;
 
 /// How a command ends behind what was written.

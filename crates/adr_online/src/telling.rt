@@ -6,10 +6,10 @@ ghost use Rattle.adr_online.specs.Lines.{connection_line, end_word};
 
 use crate::ended::Stop;
 use adr_answers::push_number_behind;
-use adr_failure::NoMemory;
 use adr_io::{Fault, Sink};
 use adr_session::{End, Served};
 use adr_token::push;
+use adr_values::NoMemory;
 use std::alloc::Global;
 
 /// The word for how a connection ended.

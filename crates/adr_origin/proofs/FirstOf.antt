@@ -1,6 +1,6 @@
 -- The first of a list of refusals is the first of those of its parts.
 use Rattle.std.proofs.Common.{◌≡◌, List, [], ◌∷◌, ◌++◌, Option, Some, None, refl, ap, ◌∙◌}
-use Rattle.adr_failure.specs.First.{first_of}
+use Rattle.adr_values.specs.First.{first_of}
 
 module _ {A : Type 0} where
   pub alone : (o : Option A) → o ≡ first_of (o ∷ [])

@@ -1,17 +1,17 @@
 -- The refusals of an `add` part by part.
 use Rattle.std.proofs.Common.{◌≡◌, ℕ, ◌+◌, ◌||◌, List, [], ◌∷◌, Option, Some, None, Err, length, sym, ◌∙◌}
 use Rattle.std.specs.Option.{option_map}
-use Rattle.adr_schema.specs.Assignments.{Given}
-use Rattle.adr_schema.specs.Numbered.{numbered}
-use Rattle.adr_schema.specs.Rules.{add_refusal as schema_add_refusal, name_refusal as schema_name_refusal}
-use Rattle.adr_failure.specs.declared.Failure.{Failure}
-use Rattle.adr_failure.specs.declared.Failure.TheVariants.{Refused, NoMemory}
+use Rattle.adr_values.specs.Assignments.{Given}
+use Rattle.adr_values.specs.Numbered.{numbered}
+use Rattle.adr_values.specs.Rules.{add_refusal as schema_add_refusal, name_refusal as schema_name_refusal}
+use Rattle.adr_values.specs.declared.failure.Failure.{Failure}
+use Rattle.adr_values.specs.declared.failure.Failure.TheVariants.{Refused, NoMemory}
 use Rattle.adr_call.specs.declared.refusal.WriteRefusal.{WriteRefusal}
 use Rattle.adr_call.specs.declared.refusal.Table.TheVariants.{Objects}
 use Rattle.adr_call.specs.declared.refusal.WriteRefusal.TheVariants.{Schema as BreaksSchema, Quarantined, GuidThere, NameTaken}
 use Rattle.adr_model.specs.Live.{objects_of}
 use Rattle.adr_model.specs.Place.{is_fixed}
-use Rattle.adr_failure.specs.First.{first_of}
+use Rattle.adr_values.specs.First.{first_of}
 use Rattle.adr_model.specs.Serve.{is_quarantined}
 use Rattle.adr_model.specs.Shown.{name_holder}
 use Rattle.adr_model.specs.Store.{State, updates_of}

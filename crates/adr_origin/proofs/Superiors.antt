@@ -1,9 +1,9 @@
 -- No object may stand under LostAndFound.
 use Rattle.std.proofs.Common.{◌≡◌, ℕ, Bool, true, false, List, refl, sym, ap, ◌∙◌}
 use Rattle.std.proofs.lemmas.Map.Lookups.{exact_bytes}
-use Rattle.adr_stamp.specs.Order.{identifier_order}
-use Rattle.adr_schema.specs.Numbered.{numbered}
-use Rattle.adr_schema.specs.Table.{is_superior}
+use Rattle.adr_values.specs.Order.{identifier_order}
+use Rattle.adr_values.specs.Numbered.{numbered}
+use Rattle.adr_values.specs.Table.{is_superior}
 use Rattle.adr_model.specs.Update.{Identifier, same_identifier}
 use Rattle.adr_model.specs.Place.{Node, lost_and_found}
 use Rattle.adr_model.specs.Write.{class_of_place}

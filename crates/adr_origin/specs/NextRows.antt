@@ -1,10 +1,10 @@
 -- The rows of the values that a live object is given, and why they can't be written.
 use Rattle.std.specs.Prelude.{ℕ, List, map, Option}
-use Rattle.adr_stamp.specs.declared.Oid.{Oid}
-use Rattle.adr_schema.specs.Assignments.{Given}
-use Rattle.adr_schema.specs.declared.content.Content.TheVariants.{Values}
+use Rattle.adr_values.specs.declared.stamp.Oid.{Oid}
+use Rattle.adr_values.specs.Assignments.{Given}
+use Rattle.adr_values.specs.declared.content.Content.TheVariants.{Values}
 use Rattle.adr_call.specs.declared.refusal.WriteRefusal.{WriteRefusal}
-use Rattle.adr_failure.specs.First.{first_of}
+use Rattle.adr_values.specs.First.{first_of}
 use Rattle.adr_model.specs.Store.{Held, State}
 use Rattle.adr_model.specs.Update.{RowOf, Update}
 use Rattle.adr_model.specs.Write.{next_row, version_refusal}

@@ -1,7 +1,7 @@
 -- What a test of a write tells of its refusal.
 use Rattle.std.specs.Prelude.{◌≡◌, Option, Some, None, Result, Ok, Err}
-use Rattle.adr_failure.specs.declared.Failure.{Failure}
-use Rattle.adr_failure.specs.declared.Failure.TheVariants.{Refused, NoMemory}
+use Rattle.adr_values.specs.declared.failure.Failure.{Failure}
+use Rattle.adr_values.specs.declared.failure.Failure.TheVariants.{Refused, NoMemory}
 use Rattle.adr_call.specs.declared.refusal.WriteRefusal.{WriteRefusal}
 
 -- it passes where there is none, and fails with it, or memory ran out

@@ -3,7 +3,7 @@
 ghost use Rattle.std.specs.Prelude.{◌≡◌, ◌<◌, ◌≤◌, ◌∷◌, [], Ok, Err, IfOk, IsErrOf, OnOk};
 ghost use Rattle.std.specs.Result.{result_err};
 ghost use Rattle.adr_call.specs.declared.refusal.WriteRefusal.{WriteRefusal};
-ghost use Rattle.adr_schema.specs.Numbered.{numbered};
+ghost use Rattle.adr_values.specs.Numbered.{numbered};
 ghost use Rattle.adr_model.specs.Change.{unchanged};
 ghost use Rattle.adr_model.specs.Store.{updates_of};
 ghost use Rattle.adr_model.specs.Write.{AddObject, add_refusal, nodes_held, rows_written, usn_limit, write};
@@ -18,9 +18,8 @@ use crate::new_object::{NewObject, new_rows};
 use crate::placing::{check_name_free, check_parent, check_superior};
 use adr_call::{Failure, WriteRefusal};
 use adr_checks::check_name;
-use adr_stamp::{Birth, LinkStamp, Oid, Stamp, Unit};
 use adr_state::{Change, Item, Mode, State, Written};
-use adr_vector::Vector;
+use adr_values::{Birth, LinkStamp, Oid, Stamp, Unit, Vector};
 use std::alloc::Global;
 
 /// What a client's adding an object makes of a controller at a time in seconds: the change, or why it is refused, first

@@ -5,7 +5,7 @@ ghost use Rattle.std.specs.Option.{option_map};
 ghost use Rattle.std.specs.Result.{result_err};
 ghost use Rattle.adr_call.specs.declared.refusal.WriteRefusal.TheVariants.{GuidThere as guid_there, Quarantined as quarantined, Schema as breaks_schema};
 ghost use Rattle.adr_call.specs.declared.refusal.Table.TheVariants.{Objects as objects};
-ghost use Rattle.adr_failure.specs.First.{first_of};
+ghost use Rattle.adr_values.specs.First.{first_of};
 ghost use Rattle.adr_model.specs.Live.{objects_of};
 ghost use Rattle.adr_model.specs.Place.{is_fixed, node_at};
 ghost use Rattle.adr_model.specs.Serve.{is_quarantined};
@@ -18,10 +18,9 @@ ghost use Rattle.adr_change.specs.Mode.{mode_of};
 use crate::live::node;
 use crate::stamps::version_of;
 use adr_call::{Table, WriteRefusal};
-use adr_guid::Guid;
-use adr_schema::SchemaRefusal;
 use adr_state::{CURSOR_LIMIT, Key, Mode, OBJECT_LIMIT, Rows, State, USN_LIMIT, VERSION_LIMIT};
 use adr_update::is_fixed;
+use adr_values::{Guid, SchemaRefusal};
 
 /// Tests that a controller takes writes.
 pub fn check_mode(mode: Mode) -> Result<(), WriteRefusal>

@@ -13,9 +13,8 @@ use crate::checks::{check_live, check_usn};
 use crate::placing::check_no_child;
 use crate::stamps::{next_item, object_of};
 use adr_call::{Failure, WriteRefusal};
-use adr_guid::Guid;
-use adr_schema::Content;
 use adr_state::{Change, DELETED, Item, State};
+use adr_values::{Content, Guid};
 use std::alloc::Global;
 
 /// What a client's deleting an object makes of a controller at a time in seconds: the change, or why it is refused,

@@ -17,9 +17,9 @@ mod stamps;
 
 pub use adding::add;
 pub use adr_call::{Failure, WriteRefusal};
-pub use adr_schema::{Assignments, Text};
 pub use adr_state::{Change, State};
 pub use adr_update::NoMemory;
+pub use adr_values::{Assignments, Text};
 pub use deleting::delete;
 pub use linking::{LinkEnds, link, unlink};
 pub use modifying::modify;

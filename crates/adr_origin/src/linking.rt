@@ -18,9 +18,8 @@ use crate::checks::{
 };
 use crate::stamps::{class_of, next_stamp, object_of};
 use adr_call::{Failure, Table, WriteRefusal};
-use adr_guid::Guid;
-use adr_stamp::{LinkKey, Unit};
 use adr_state::{Change, Item, Key, LINK_LIMIT, Mode, Rows, Said, State, Update};
+use adr_values::{Guid, LinkKey, Unit};
 use std::alloc::Global;
 
 /// What a link that a client makes or removes goes between: live objects, by their GUIDs, and under which attribute.

@@ -11,9 +11,8 @@ ghost use Rattle.adr_model.specs.Write.{is_taken, nodes_held};
 ghost use Rattle.adr_tree.specs.Parent.{IsParent};
 
 use crate::NoMemory;
-use adr_guid::Guid;
-use adr_schema::Text;
 use adr_state::{Node, State};
+use adr_values::{Guid, Text};
 use std::alloc::Global;
 
 /// The live object of a GUID.

@@ -13,10 +13,8 @@ use crate::adding::own_change;
 use crate::checks::{check_live, check_schema, check_usn, check_version};
 use crate::stamps::{class_of, next_row, object_of};
 use adr_call::{Failure, WriteRefusal};
-use adr_guid::Guid;
-use adr_schema::{Assignments, Content};
-use adr_stamp::{Oid, Unit};
 use adr_state::{Change, Item, Key, Rows, State, Update};
+use adr_values::{Assignments, Content, Guid, Oid, Unit};
 use std::alloc::Global;
 
 /// What a client's giving an object values makes of a controller at a time in seconds: the change, or why it is

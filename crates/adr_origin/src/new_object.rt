@@ -1,15 +1,13 @@
 //! A new object, and its rows.
 
 ghost use Rattle.std.specs.Prelude.{◌≡◌, ◌++◌, IfOk, OnOk};
-ghost use Rattle.adr_schema.specs.declared.content.Content.TheVariants.{Name as named};
+ghost use Rattle.adr_values.specs.declared.content.Content.TheVariants.{Name as named};
 ghost use Rattle.adr_model.specs.Write.{new_rows, row};
 ghost use Rattle.adr_origin.specs.GivenRows.{given_rows};
 
 use crate::NoMemory;
-use adr_guid::Guid;
-use adr_schema::{Assignments, Content, Text};
-use adr_stamp::{LinkStamp, Oid};
 use adr_state::{CLASS, Key, NAME, Said, Update};
+use adr_values::{Assignments, Content, Guid, LinkStamp, Oid, Text};
 use std::alloc::Global;
 
 /// An object that a client adds.

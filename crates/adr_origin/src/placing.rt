@@ -4,7 +4,7 @@ ghost use Rattle.std.specs.Prelude.{◌≡◌, ◌||◌, IsSome, OnOk, false, is
 ghost use Rattle.std.specs.Option.{option_map};
 ghost use Rattle.std.specs.Result.{result_err};
 ghost use Rattle.adr_call.specs.declared.refusal.WriteRefusal.TheVariants.{NameTaken as name_taken};
-ghost use Rattle.adr_schema.specs.Numbered.{numbered};
+ghost use Rattle.adr_values.specs.Numbered.{numbered};
 ghost use Rattle.adr_model.specs.Place.{is_fixed, lost_and_found, node_at};
 ghost use Rattle.adr_model.specs.Shown.{name_holder};
 ghost use Rattle.adr_model.specs.Store.{updates_of};
@@ -17,10 +17,9 @@ use crate::live::{first_child, holder, is_met_above, is_taken, node};
 use crate::stamps::class_of;
 use adr_call::{Failure, WriteRefusal};
 use adr_checks::{LOST_AND_FOUND_CLASS, ROOT_CLASS};
-use adr_guid::Guid;
-use adr_schema::Text;
 use adr_state::State;
 use adr_update::{is_fixed, is_lost_and_found, is_root};
+use adr_values::{Guid, Text};
 use std::alloc::Global;
 
 /// Tests that an object may come to stand here: under the root, LostAndFound or a live object.

@@ -3,7 +3,7 @@
 ghost use Rattle.std.specs.Prelude.{◌≡◌, ◌<◌, ◌≤◌, ◌≢◌, Err, Ok, IfOk, IsErrOf, OnOk};
 ghost use Rattle.std.specs.Result.{result_err};
 ghost use Rattle.adr_call.specs.declared.refusal.WriteRefusal.{WriteRefusal};
-ghost use Rattle.adr_schema.specs.Numbered.{numbered};
+ghost use Rattle.adr_values.specs.Numbered.{numbered};
 ghost use Rattle.adr_model.specs.Store.{row_held, updates_of};
 ghost use Rattle.adr_model.specs.Update.{RowOf, name_attr};
 ghost use Rattle.adr_model.specs.Write.{Rename, nodes_held, object_of, rename_refusal, usn_limit, version_limit, version_of, write};
@@ -17,10 +17,8 @@ use crate::placing::{NewName, check_new_name, check_no_loop, check_parent, check
 use crate::stamps::{class_of, next_item, object_of};
 use adr_call::{Failure, WriteRefusal};
 use adr_checks::check_name;
-use adr_guid::Guid;
-use adr_schema::Text;
-use adr_stamp::Oid;
 use adr_state::{Change, Key, NAME, State};
+use adr_values::{Guid, Oid, Text};
 use std::alloc::Global;
 
 /// What a client's giving an object a name and a parent makes of a controller at a time in seconds: the change, or why

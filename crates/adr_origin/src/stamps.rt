@@ -10,11 +10,9 @@ ghost use Rattle.adr_update.specs.Key.{key_of};
 use crate::NoMemory;
 use crate::live::node;
 use crate::new_object::row;
-use adr_guid::Guid;
-use adr_schema::Content;
-use adr_stamp::{Birth, LinkStamp, Oid, Stamp, Unit};
 use adr_state::{Held, Item, Key, State, Update};
 use adr_update::root;
+use adr_values::{Birth, Content, Guid, LinkStamp, Oid, Stamp, Unit};
 use std::alloc::Global;
 
 /// The live object of a GUID. A write of a GUID that has none is refused.

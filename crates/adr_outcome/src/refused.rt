@@ -7,9 +7,7 @@ use adr_call::{
     AdoptRefusal, CollectRefusal, Field, Fields, ItemFault, Label, Outcome, Plainly, ServeRefusal,
     Table, TakeRefusal, WriteRefusal,
 };
-use adr_guid::Guid;
-use adr_schema::SchemaRefusal;
-use adr_vector::Mark;
+use adr_values::{Guid, Mark, SchemaRefusal};
 
 fn table_name(table: Table) -> &'static str
     ensures { result.now ≡ table_name table }

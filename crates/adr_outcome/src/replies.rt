@@ -6,7 +6,7 @@ ghost use Rattle.adr_outcome.specs.Unsent.{unsent};
 
 use adr_call::Outcome;
 use adr_cycle::{Reply, count};
-use adr_schema::NoMemory;
+use adr_values::NoMemory;
 
 /// How many rows a reply has.
 fn rows_in(reply: &Reply) -> Result<u32, NoMemory>

@@ -3,8 +3,8 @@
 ghost use Rattle.std.specs.Prelude.{ℕ, List, Option};
 ghost use Rattle.adr_outside.specs.Given.{GivesNext};
 
-use adr_guid::Guid;
 use adr_io::Fault;
+use adr_values::Guid;
 
 /// Identifiers that nobody has used. That they are new is a promise of who gives them, and nothing here can test it.
 pub trait Fresh {

@@ -6,8 +6,8 @@ ghost use Rattle.uuid.specs.Parts.{variant_of};
 ghost use Rattle.uuid.specs.declared.Variant.TheVariants.{RFC4122};
 
 use crate::fresh::Fresh;
-use adr_guid::Guid;
 use adr_io::{Failures, Fault};
+use adr_values::Guid;
 use std::io;
 use std::random::RandomSource;
 use uuid::Builder;

@@ -5,7 +5,7 @@ use Rattle.std.specs.Ordering.{is_eq, match_ordering}
 use Rattle.std.specs.declared.cmp.Ordering.{Ordering}
 use Rattle.std.specs.declared.cmp.Ordering.TheVariants.{Less, Equal, Greater}
 use Rattle.std.proofs.lemmas.List.Folds.{list_all-append}
-use Rattle.adr_stamp.specs.declared.Oid.{Oid}
+use Rattle.adr_values.specs.declared.stamp.Oid.{Oid}
 use Rattle.adr_model.specs.Update.{Key, key_order, same_key}
 use Rattle.adr_model.specs.Store.{Held, row_held, is_row_of, with_row}
 use Rattle.adr_model.specs.Formed.{AreRising}

@@ -1,7 +1,7 @@
 -- How many objects and links there are after a row was put.
 use Rattle.std.proofs.Common.{◌≡◌, ◌+◌, List, [], ◌∷◌, Bool, true, false, cond, not, ◌&&◌, refl, sym, ap, ◌∙◌, subst, length, Option, Some, None, is_some, is_none, arith, eqb, eqb-true}
 use Rattle.std.specs.List.{cons_option}
-use Rattle.adr_stamp.specs.declared.Oid.{Oid}
+use Rattle.adr_values.specs.declared.stamp.Oid.{Oid}
 use Rattle.adr_model.specs.Update.{Key, RowOf, LinkOf, class_attr, same_object}
 use Rattle.adr_model.specs.Live.{born, objects_of}
 use Rattle.adr_model.specs.Store.{Held, row_held, updates_of, with_row}

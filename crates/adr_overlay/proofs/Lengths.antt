@@ -6,10 +6,10 @@ use Rattle.std.specs.BTreeMap.{insert_entry, is_at}
 use Rattle.std.specs.Ordering.{is_eq}
 use Rattle.std.proofs.lemmas.Bool.Decides.{nat_tests}
 use Rattle.std.proofs.lemmas.Cmp.{nat_list_cmp_total, tied_itself}
-use Rattle.adr_stamp.specs.Order.{identifier_order}
-use Rattle.adr_vector.specs.Vector.{Cursors, at, covers, raised, joined}
-use Rattle.adr_vector.proofs.Cursors.{IsRising, FromOne, IsBelow, head_below, tail_rising}
-use Rattle.adr_vector.proofs.Joining.{at-joined, rising-joined, from_one-joined, raised_elsewhere, rising-raised, from_one-raised}
+use Rattle.adr_values.specs.Order.{identifier_order}
+use Rattle.adr_values.specs.Vector.{Cursors, at, covers, raised, joined}
+use Rattle.adr_values.proofs.Cursors.{IsRising, FromOne, IsBelow, head_below, tail_rising}
+use Rattle.adr_values.proofs.Joining.{at-joined, rising-joined, from_one-joined, raised_elsewhere, rising-raised, from_one-raised}
 use Rattle.adr_change.proofs.Entered.{entered, lacking}
 use Rattle.adr_overlay.specs.Cursors.{at_zero, new_at}
 

@@ -1,6 +1,6 @@
 -- What is told by rows over those of a base.
 use Rattle.std.specs.Prelude.{◌≡◌, ℕ, List, [], ◌∷◌, ◌++◌, Bool, ◌&&◌, ◌||◌, not, Option, Some, None, filter, is_none, is_some, length, nat_lt, if◌then◌else◌}
-use Rattle.adr_stamp.specs.declared.Oid.{Oid}
+use Rattle.adr_values.specs.declared.stamp.Oid.{Oid}
 use Rattle.adr_model.specs.Update.{Key, RowOf, LinkOf, deleted_attr}
 use Rattle.adr_model.specs.Live.{born, objects_of}
 use Rattle.adr_model.specs.Store.{Held, holds_dead, row_held, updates_of, with_row}

@@ -1,10 +1,10 @@
 -- What stands of a unit before its item.
 use Rattle.std.specs.Prelude.{◌≡◌, ℕ, List, ◌||◌, Option, Some, None}
 use Rattle.std.specs.Option.{option_and_then}
-use Rattle.adr_stamp.specs.declared.Oid.{Oid}
-use Rattle.adr_stamp.specs.declared.Unit.{Unit as Named}
-use Rattle.adr_stamp.specs.declared.Unit.TheVariants.{Object, Link}
-use Rattle.adr_vector.specs.Vector.{Cursors}
+use Rattle.adr_values.specs.declared.stamp.Oid.{Oid}
+use Rattle.adr_values.specs.declared.stamp.Unit.{Unit as Named}
+use Rattle.adr_values.specs.declared.stamp.Unit.TheVariants.{Object, Link}
+use Rattle.adr_values.specs.Vector.{Cursors}
 use Rattle.adr_model.specs.Update.{RowOf, class_attr}
 use Rattle.adr_model.specs.Store.{Held as Row, row_held}
 use Rattle.adr_model.specs.Take.{class_said, is_lost_end, presence_of}

@@ -2,11 +2,10 @@
 
 ghost use Rattle.std.specs.Prelude.{◌≡◌, ◌≤◌, ◌+◌, ◌==◌, [], filter, length, unwrap_or};
 ghost use Rattle.std.specs.Option.{option_copied};
-ghost use Rattle.adr_vector.specs.Vector.{IsVector, at, cursor_limit, joined, raised};
+ghost use Rattle.adr_values.specs.Vector.{IsVector, at, cursor_limit, joined, raised};
 ghost use Rattle.adr_overlay.specs.Cursors.{new_at};
 
-use adr_guid::Guid;
-use adr_vector::Vector;
+use adr_values::{Guid, Vector};
 
 /// How many cursors there are when a vector takes over what another has seen, if there is another, and is then raised
 /// at one identifier.

@@ -3,16 +3,15 @@
 ghost use Rattle.std.specs.Prelude.{◌≡◌, filter, map, not, unwrap_or, if◌then◌else◌};
 ghost use Rattle.std.specs.List.{list_any};
 ghost use Rattle.std.specs.Result.{result_err};
-ghost use Rattle.adr_schema.specs.Table.{must_of};
-ghost use Rattle.adr_failure.specs.First.{first_of};
+ghost use Rattle.adr_values.specs.Table.{must_of};
+ghost use Rattle.adr_values.specs.First.{first_of};
 ghost use Rattle.adr_model.specs.Take.{broken, class_among, has_row, is_birth, is_reserved_row, lacks, row_fault};
 
 use crate::keys::{class_among, has_row, is_reserved};
 use adr_call::ItemFault;
 use adr_checks::{Schema, check_name};
-use adr_schema::{Content, SchemaRefusal};
-use adr_stamp::Oid;
 use adr_update::{CLASS, DELETED, Key, NAME, Said, Update, carries_birth};
+use adr_values::{Content, Oid, SchemaRefusal};
 
 /// Whether a class row carries the birth of its object.
 pub fn is_birth(object: &Oid, row: &Update) -> bool

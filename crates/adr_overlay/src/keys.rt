@@ -7,8 +7,8 @@ ghost use Rattle.adr_model.specs.Take.{class_among, class_said, has_row, is_of_a
 ghost use Rattle.adr_update.specs.Key.{key_of};
 ghost use Rattle.adr_update.specs.Said.{said_of};
 
-use adr_schema::Content;
 use adr_update::{CLASS, DELETED, Key, Said, Update};
+use adr_values::Content;
 
 pub fn is_of_attr(attr: u16, key: Key) -> bool
     ensures { result ≡ is_of_attr attr (key_of key) }

@@ -15,9 +15,9 @@ ghost use Rattle.adr_overlay.specs.HeldAt.{held_at};
 ghost use Rattle.adr_overlay.specs.Overlay.{is_birth_row, is_left, is_stripped, links_found, links_lost, one};
 
 use crate::NoMemory;
-use adr_stamp::Oid;
 use adr_table::Table;
 use adr_update::{DELETED, Held, Key, Update};
+use adr_values::Oid;
 use std::alloc::{AllocError, Global};
 use std::marker::Model;
 

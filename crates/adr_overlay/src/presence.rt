@@ -8,9 +8,8 @@ ghost use Rattle.adr_overlay.specs.Presence.{defined};
 
 use crate::overlay::Overlay;
 use adr_change::covers_birth;
-use adr_stamp::{LinkKey, Oid};
 use adr_update::Update;
-use adr_vector::Vector;
+use adr_values::{LinkKey, Oid, Vector};
 
 /// What stands of an object before its item.
 #[derive(Clone, Copy)]

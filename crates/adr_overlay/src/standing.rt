@@ -1,15 +1,14 @@
 //! What stands of an item's unit before the item.
 
 ghost use Rattle.std.specs.Prelude.{◌≡◌};
-ghost use Rattle.adr_stamp.specs.declared.Unit.TheVariants.{Object};
+ghost use Rattle.adr_values.specs.declared.stamp.Unit.TheVariants.{Object};
 ghost use Rattle.adr_overlay.specs.Standing.{IsStanding, class_held, new_object};
 
 use crate::keys::class_said;
 use crate::overlay::Overlay;
 use crate::presence::{Presence, has_lost_end, presence_absent, presence_held};
-use adr_stamp::{Oid, Unit};
 use adr_update::{CLASS, Key};
-use adr_vector::Vector;
+use adr_values::{Oid, Unit, Vector};
 
 /// What stands of a unit before its item.
 #[derive(Clone, Copy)]

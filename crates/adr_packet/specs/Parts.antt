@@ -1,7 +1,7 @@
 -- What requests and replies are made of: who asks whom, from where to where a reply reaches, and items.
 use Rattle.std.specs.Prelude.{if◌then◌else◌, ◌≡◌, ℕ, List, ◌++◌, length, None}
 use Rattle.std.specs.List.{flat_map}
-use Rattle.adr_vector.specs.declared.mark.Mark.{Mark}
+use Rattle.adr_values.specs.declared.mark.Mark.{Mark}
 use Rattle.adr_wire.specs.Composites.{ordered_mark_at, mark}
 use Rattle.adr_wire.specs.Fields.{id_at, id, u32_at, u32}
 use Rattle.adr_wire.specs.Pieces.{Piece, piece_at, IsPiece}

@@ -1,6 +1,6 @@
 -- A reply as bytes.
 use Rattle.std.specs.Prelude.{◌≡◌, ℕ, ◌<◌, ◌^◌, List, [], ◌∷◌, ◌++◌, All, length, Option, Result}
-use Rattle.adr_vector.specs.Vector.{Cursors}
+use Rattle.adr_values.specs.Vector.{Cursors}
 use Rattle.adr_wire.specs.declared.refusal.DecodeRefusal.{DecodeRefusal}
 use Rattle.adr_wire.specs.Composites.{vector_at, vector}
 use Rattle.adr_wire.specs.Fields.{u32_at, u32}

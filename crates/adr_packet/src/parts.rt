@@ -8,7 +8,7 @@ ghost use Rattle.adr_wire.specs.Reading.{Gives, Tells};
 ghost use Rattle.adr_packet.specs.Parts as parts;
 
 use adr_cycle::{Mark, NoMemory, Vector};
-use adr_guid::Guid;
+use adr_values::Guid;
 use adr_wire::{Reader, WireRefusal, Writer};
 use std::alloc::Global;
 

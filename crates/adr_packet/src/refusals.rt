@@ -9,7 +9,7 @@ ghost use Rattle.adr_packet.specs.Refusals as form;
 use crate::refusal::Refusal;
 use adr_call::ServeRefusal;
 use adr_cycle::NoMemory;
-use adr_guid::Guid;
+use adr_values::Guid;
 use adr_wire::{
     DecodeRefusal, Failure, Malformed, Reader, WireRefusal, Writer, malformed, open_message,
 };

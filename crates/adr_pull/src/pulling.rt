@@ -12,10 +12,9 @@ use crate::fault::PullFault;
 use crate::talking::meet;
 use crate::turning::take_turn;
 use adr_controller::{Controller, Keeper};
-use adr_guid::Guid;
 use adr_io::Sink;
 use adr_outside::Net;
-use adr_schema::Text;
+use adr_values::{Guid, Text};
 use std::alloc::Global;
 
 /// The most replies of a cycle.

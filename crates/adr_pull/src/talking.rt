@@ -10,10 +10,10 @@ use crate::exchanging::exchange;
 use crate::fault::PullFault;
 use adr_controller::{Controller, Keeper};
 use adr_frames::{GREETING, IDENTITY, REQUEST, framed};
-use adr_guid::Guid;
 use adr_io::Fault;
 use adr_outside::Net;
 use adr_packet::encode_request;
+use adr_values::Guid;
 use std::alloc::Global;
 
 /// The most items of a reply.

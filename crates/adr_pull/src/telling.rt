@@ -11,7 +11,7 @@ use adr_answers::{Heading, NoMemory, line, result_line};
 use adr_call::Outcome;
 use adr_controller::Taken;
 use adr_io::{Fault, Sink};
-use adr_schema::Text;
+use adr_values::Text;
 use std::alloc::Global;
 
 /// The line of a reply that was taken.

@@ -14,10 +14,9 @@ use crate::reacting::react;
 use crate::talking::ask;
 use crate::telling::tell;
 use adr_controller::{Controller, Keeper};
-use adr_guid::Guid;
 use adr_io::Sink;
 use adr_outside::Net;
-use adr_schema::Text;
+use adr_values::{Guid, Text};
 use std::alloc::Global;
 
 /// Whether a cycle is over behind what came.

@@ -8,9 +8,9 @@ use Rattle.std.specs.Ordering.{match_ordering, ordering_reverse}
 use Rattle.std.specs.declared.cmp.Ordering.{Ordering}
 use Rattle.std.specs.declared.cmp.Ordering.TheVariants.{Less, Greater}
 use Rattle.std.proofs.lemmas.Bool.{eqb-true, ltb-true}
-use Rattle.adr_stamp.specs.declared.Oid.{Oid}
-use Rattle.adr_stamp.specs.declared.LinkKey.{LinkKey}
-use Rattle.adr_schema.specs.Table.{Table}
+use Rattle.adr_values.specs.declared.stamp.Oid.{Oid}
+use Rattle.adr_values.specs.declared.stamp.LinkKey.{LinkKey}
+use Rattle.adr_values.specs.Table.{Table}
 use Rattle.adr_model.specs.Change.{goes_with, killed_by, put, rows_after, stripped}
 use Rattle.adr_model.specs.Formed.{AreFormedRows, AreRising, IsDeadFormed, IsObjectFormed}
 use Rattle.adr_model.specs.Member.{Each, Member}

@@ -3,9 +3,9 @@ use Rattle.std.proofs.Common.{◌≡◌, ℕ, ◌+◌, ◌<◌, ◌≤◌, Bool,
 use Rattle.std.specs.Prelude.{IfErr, IfOk, OnOk}
 use Rattle.std.proofs.lemmas.Bool.{eq-eqb, eqb-true, ne_eqb}
 use Rattle.std.proofs.lemmas.List.{drop-drop, drop_at, get_or-drop, length-append, length-drop}
-use Rattle.adr_failure.specs.declared.Failure.{Failure}
-use Rattle.adr_vector.specs.Vector.{Cursors, at, cursor_limit, raised}
-use Rattle.adr_vector.proofs.Placing.{raised_seen}
+use Rattle.adr_values.specs.declared.failure.Failure.{Failure}
+use Rattle.adr_values.specs.Vector.{Cursors, at, cursor_limit, raised}
+use Rattle.adr_values.proofs.Placing.{raised_seen}
 use Rattle.adr_wire.specs.declared.refusal.Malformed.{Malformed}
 use Rattle.adr_wire.specs.Reading.{Names, Read, Reading, Refuses, Rest, Tells, TellsAs, ◌>>=◌, then_at}
 use Rattle.adr_wire.specs.Spelling.{AreBytes}

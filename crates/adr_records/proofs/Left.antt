@@ -6,13 +6,13 @@ use Rattle.std.specs.BTreeMap.{is_at}
 use Rattle.std.specs.BTreeSet.{insert_key}
 use Rattle.std.proofs.lemmas.Bool.{or_parts}
 use Rattle.std.proofs.lemmas.Cmp.{eq_by_cmp_equiv}
-use Rattle.adr_stamp.specs.Order.{object_order}
-use Rattle.adr_stamp.specs.declared.Oid.{Oid}
-use Rattle.adr_stamp.specs.declared.LinkKey.{LinkKey}
-use Rattle.adr_stamp.specs.declared.Unit.TheVariants.{Object, Link}
-use Rattle.adr_stamp.specs.contracts.OidOrd.TheImpl.Laws.{total-law as objects_total}
-use Rattle.adr_stamp.proofs.Exact.{exact_objects}
-use Rattle.adr_schema.specs.Table.{Table, must_of, class_at, is_forward, kind_at}
+use Rattle.adr_values.specs.Order.{object_order}
+use Rattle.adr_values.specs.declared.stamp.Oid.{Oid}
+use Rattle.adr_values.specs.declared.stamp.LinkKey.{LinkKey}
+use Rattle.adr_values.specs.declared.stamp.Unit.TheVariants.{Object, Link}
+use Rattle.adr_values.specs.contracts.stamp.OidOrd.TheImpl.Laws.{total-law as objects_total}
+use Rattle.adr_values.proofs.ExactOrders.{exact_objects}
+use Rattle.adr_values.specs.Table.{Table, must_of, class_at, is_forward, kind_at}
 use Rattle.adr_model.specs.Update.{Key, RowOf, LinkOf, Update, same_object, class_attr, name_attr, deleted_attr}
 use Rattle.adr_model.specs.Live.{is_among}
 use Rattle.adr_model.specs.Store.{Held, holds_object, is_row_of, row_held}

@@ -3,11 +3,11 @@ use Rattle.std.proofs.Common.{◌≡◌, ℕ, ◌<◌, List, [], length, map, ma
 use Rattle.std.proofs.Common.{inl, inr}
 use Rattle.std.specs.List.Sorted.{IsStrictlySortedBy}
 use Rattle.std.proofs.lemmas.Cmp.{nat_list_cmp_total}
-use Rattle.adr_schema.specs.Numbered.{numbered}
-use Rattle.adr_stamp.specs.Order.{identifier_order}
-use Rattle.adr_vector.specs.Vector.{Cursors, at, cursor_limit, joined, raised}
-use Rattle.adr_vector.proofs.Cursors.{FromOne, IsRising, nil_rising, same_cursors}
-use Rattle.adr_vector.proofs.Joining.{at-joined, from_one-joined, rising-joined}
+use Rattle.adr_values.specs.Numbered.{numbered}
+use Rattle.adr_values.specs.Order.{identifier_order}
+use Rattle.adr_values.specs.Vector.{Cursors, at, cursor_limit, joined, raised}
+use Rattle.adr_values.proofs.Cursors.{FromOne, IsRising, nil_rising, same_cursors}
+use Rattle.adr_values.proofs.Joining.{at-joined, from_one-joined, rising-joined}
 use Rattle.adr_model.specs.Change.{Change, after, rows_after, with_mark}
 use Rattle.adr_model.specs.Collect.{woken}
 use Rattle.adr_model.specs.Formed.{IsFormedStore}

@@ -1,7 +1,7 @@
 -- How much will have been seen.
 use Rattle.std.proofs.Common.{◌≡◌, ℕ, List, Bool, true, false, cond, max, ap, arith}
-use Rattle.adr_vector.specs.Vector.{Cursors, at, raised}
-use Rattle.adr_vector.proofs.Joining.{at-raised}
+use Rattle.adr_values.specs.Vector.{Cursors, at, raised}
+use Rattle.adr_values.proofs.Joining.{at-raised}
 use Rattle.adr_model.specs.Update.{same_identifier}
 
 -- the number at an identifier, by whether it is the one that is raised

@@ -1,6 +1,6 @@
 -- The front of a log, which says whose it is, and an area, which has the image of a state.
 use Rattle.std.specs.Prelude.{if◌then◌else◌, ◌==◌, ℕ, ◌+◌, List, [], ◌∷◌, ◌++◌, length, take, drop, nat_lt, Ok, Err}
-use Rattle.adr_vector.specs.Vector.{at}
+use Rattle.adr_values.specs.Vector.{at}
 use Rattle.adr_wire.specs.Reading.{Reading, ◌>>=◌, as_at, then_at, where_at}
 use Rattle.adr_wire.specs.Fields.{format_version_at, id_at, magic_at, u32_at, u16, u32, id}
 use Rattle.adr_model.specs.Update.{Identifier}

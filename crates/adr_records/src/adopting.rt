@@ -9,10 +9,9 @@ ghost use Rattle.adr_image.specs.Stored.{IsSpelled};
 
 use crate::waking::wake;
 use adr_call::{AdoptRefusal, Table};
-use adr_failure::{Failure, NoMemory};
-use adr_guid::Guid;
 use adr_image::{Contents, names_inv};
 use adr_state::{CURSOR_LIMIT, State};
+use adr_values::{Failure, Guid, NoMemory};
 use std::alloc::{AllocError, Global};
 
 /// Why a database can't be adopted under an identifier, first in order.

@@ -6,10 +6,9 @@ ghost use Rattle.adr_model.specs.Lengths.{image_length};
 ghost use Rattle.adr_image.specs.Stored.{image};
 ghost use Rattle.adr_records.specs.Logged.{IsLogged};
 
-use adr_failure::NoMemory;
-use adr_guid::Guid;
 use adr_image::{ContentsRef, encode};
 use adr_state::{Held, PartnerMark, State};
+use adr_values::{Guid, NoMemory};
 use std::alloc::Global;
 
 /// What a state's database says, by its rows and marks.

@@ -7,10 +7,10 @@ ghost use Rattle.adr_records.specs.Logged.{IsLogged};
 
 use crate::follow::can_follow;
 use crate::head::AREA_VERSION;
-use adr_failure::Failure;
 use adr_image::decode_change;
 use adr_journal::FollowRefusal;
 use adr_state::{Change, State};
+use adr_values::Failure;
 use std::alloc::Global;
 
 /// Whether what is written has local update sequence numbers up to the one after the change.

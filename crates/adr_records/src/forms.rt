@@ -3,15 +3,15 @@
 ghost use Rattle.std.specs.Prelude.{◌≡◌, is_none};
 ghost use Rattle.std.specs.List.{list_all};
 ghost use Rattle.std.specs.Result.{result_err};
-ghost use Rattle.adr_schema.specs.Table.{is_forward, kind_at};
+ghost use Rattle.adr_values.specs.Table.{is_forward, kind_at};
 ghost use Rattle.adr_model.specs.Take.{is_reserved_row};
 ghost use Rattle.adr_update.specs.Said.{said_of};
 ghost use Rattle.adr_law_formed.specs.Tested.{fits_class, is_class_known, says_allowed_name, says_dead};
 
 use adr_checks::{Schema, check_name};
 use adr_overlay::is_reserved;
-use adr_schema::{Content, SchemaRefusal};
 use adr_update::{CLASS, Held, Key, NAME, Said, Update};
+use adr_values::{Content, SchemaRefusal};
 
 fn is_allowed(checked: Result<(), SchemaRefusal>) -> bool
     ensures { result ≡ is_none (result_err checked) }

@@ -10,11 +10,10 @@ ghost use Rattle.adr_records.specs.Logged.{IsLogged};
 
 use crate::contents::image_of;
 use crate::waking::wake;
-use adr_failure::{Failure, NoMemory};
-use adr_guid::Guid;
 use adr_image::{Contents, read_image};
 use adr_journal::{AreaRead, Owner};
 use adr_state::State;
+use adr_values::{Failure, Guid, NoMemory};
 use adr_wire::{Malformed, Reader, WireRefusal, Writer};
 use std::alloc::{AllocError, Global};
 

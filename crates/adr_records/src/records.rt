@@ -2,10 +2,10 @@
 
 use crate::following::follow;
 use crate::head::{read_area, read_front, write_area, write_front};
-use adr_failure::NoMemory;
 use adr_image::encode_change;
 use adr_journal::{AreaRead, FollowRefusal, Form, Owner};
 use adr_state::{Change, State};
+use adr_values::NoMemory;
 use adr_wire::WireRefusal;
 use std::alloc::Global;
 

@@ -2,17 +2,15 @@
 
 ghost use Rattle.std.specs.Prelude.{◌≡◌, [], IfOk, fold};
 ghost use Rattle.std.specs.BTreeSet.{insert_key};
-ghost use Rattle.adr_stamp.specs.Order.{object_order};
-ghost use Rattle.adr_vector.specs.Vector.{covers, joined};
+ghost use Rattle.adr_values.specs.Order.{object_order};
+ghost use Rattle.adr_values.specs.Vector.{covers, joined};
 ghost use Rattle.adr_law_formed.specs.Tested.{are_removable, is_removable};
 
 use crate::NoMemory;
-use adr_guid::Guid;
 use adr_overlay::Overlay;
-use adr_stamp::Oid;
 use adr_state::Change;
 use adr_update::Key;
-use adr_vector::{Vector, seen_by_both};
+use adr_values::{Guid, Oid, Vector, seen_by_both};
 use std::alloc::Global;
 use std::collections::BTreeSet;
 

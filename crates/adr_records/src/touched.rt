@@ -3,13 +3,13 @@
 ghost use Rattle.std.specs.Prelude.{◌≡◌, [], List, IfOk, Some, fold, is_some};
 ghost use Rattle.std.specs.BTreeSet.{insert_key};
 ghost use Rattle.std.specs.List.{list_all};
-ghost use Rattle.adr_stamp.specs.Order.{object_order};
-ghost use Rattle.adr_stamp.specs.declared.Oid.{Oid as Named};
+ghost use Rattle.adr_values.specs.Order.{object_order};
+ghost use Rattle.adr_values.specs.declared.stamp.Oid.{Oid as Named};
 ghost use Rattle.adr_model.specs.Change.{without_object};
 ghost use Rattle.adr_model.specs.Store.{row_held};
 ghost use Rattle.adr_model.specs.Take.{is_reserved_row};
 ghost use Rattle.adr_model.specs.Update.{RowOf, deleted_attr};
-ghost use Rattle.adr_schema.specs.Table.{must_of};
+ghost use Rattle.adr_values.specs.Table.{must_of};
 ghost use Rattle.adr_update.specs.Key.{key_of};
 ghost use Rattle.adr_law_formed.specs.Tested.{all_of_object, are_touched_formed, fits_class, is_alive_formed, is_formed_by, is_object_formed, is_touched_formed};
 
@@ -20,9 +20,9 @@ use crate::forms::{
 use crate::removed::set_of;
 use adr_checks::Schema;
 use adr_overlay::{Overlay, class_said, is_birth};
-use adr_stamp::{Oid, Unit};
 use adr_state::Change;
 use adr_update::{CLASS, Held, Key, NAME};
+use adr_values::{Oid, Unit};
 use std::alloc::Global;
 use std::collections::BTreeSet;
 

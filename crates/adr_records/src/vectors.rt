@@ -1,14 +1,13 @@
 //! The numbers of a change: its USN, its vectors and how many cursors and marks there come to be.
 
 ghost use Rattle.std.specs.Prelude.{◌≡◌, length};
-ghost use Rattle.adr_vector.specs.Vector.{at, at_most};
+ghost use Rattle.adr_values.specs.Vector.{at, at_most};
 ghost use Rattle.adr_model.specs.Change.{after, with_mark};
 ghost use Rattle.adr_law_formed.specs.Tested.{are_in_order, comes_after};
 
-use adr_guid::Guid;
 use adr_overlay::len_after;
 use adr_state::{CURSOR_LIMIT, Change, MARK_LIMIT, State, is_same};
-use adr_vector::seen_by_both;
+use adr_values::{Guid, seen_by_both};
 
 /// Whether a state is up, and a change at its USN or above it.
 pub(crate) fn comes_after(state: &State, change: &Change) -> bool

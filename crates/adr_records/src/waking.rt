@@ -1,17 +1,16 @@
 //! A controller is made of what an image says.
 
 ghost use Rattle.std.specs.Prelude.{◌≡◌, ◌<◌, [], IfOk, OnOk, IsErrOf, length};
-ghost use Rattle.adr_vector.specs.Refusal.{full};
-ghost use Rattle.adr_vector.specs.Vector.{cursor_limit, raised};
+ghost use Rattle.adr_values.specs.Refusal.{full};
+ghost use Rattle.adr_values.specs.Vector.{cursor_limit, raised};
 ghost use Rattle.adr_model.specs.Collect.{woken};
 ghost use Rattle.adr_model.specs.Formed.{IsFormedStore};
 ghost use Rattle.adr_image.specs.Stored.{IsSpelled};
 ghost use Rattle.adr_records.specs.Woken.{unmade, with_marks};
 
-use adr_failure::Failure;
-use adr_guid::Guid;
 use adr_image::Contents;
 use adr_state::{Full, Marks, State};
+use adr_values::{Failure, Guid};
 use std::alloc::Global;
 
 /// Makes all of an empty controller.

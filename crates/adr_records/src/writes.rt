@@ -2,8 +2,8 @@
 
 ghost use Rattle.std.specs.Prelude.{◌≡◌, ◌&&◌, [], List, IfOk, IsTrue};
 ghost use Rattle.std.specs.List.{list_all};
-ghost use Rattle.adr_stamp.specs.declared.Unit.{Unit as Named};
-ghost use Rattle.adr_vector.specs.Vector.{Cursors};
+ghost use Rattle.adr_values.specs.declared.stamp.Unit.{Unit as Named};
+ghost use Rattle.adr_values.specs.Vector.{Cursors};
 ghost use Rattle.adr_model.specs.Change.{held_of, rows_after};
 ghost use Rattle.adr_model.specs.Store.{Held};
 ghost use Rattle.adr_model.specs.Take.{is_above, is_of_attr};
@@ -19,7 +19,7 @@ use adr_overlay::{
     Overlay, Presence, Standing, is_above, is_of_attr, lacks, new_object, standing_of,
 };
 use adr_update::{DELETED, Item, LINK_LIMIT, OBJECT_LIMIT, Update, Written};
-use adr_vector::Vector;
+use adr_values::Vector;
 use std::alloc::Global;
 
 /// Whether each write may follow at its turn, with the vector before the first, and no table is over its limit behind it.

@@ -10,11 +10,10 @@ ghost use Rattle.adr_image.specs.Stored.{IsSpelled, image};
 ghost use Rattle.adr_records.specs.Logged.{IsLogged};
 
 use adr_call::{AdoptRefusal, Failure};
-use adr_failure::NoMemory;
-use adr_guid::Guid;
 use adr_image::{Dormant, decode};
 use adr_records::{adopt, image_of};
 use adr_state::State;
+use adr_values::{Guid, NoMemory};
 use std::alloc::{AllocError, Global};
 use std::marker::Model;
 

@@ -5,7 +5,7 @@ use Rattle.std.specs.List.Sorted.{IsStrictlySortedBy}
 use Rattle.std.specs.Ordering.{nat_cmp}
 use Rattle.std.specs.Fmt.{decimal}
 use Rattle.std.proofs.lemmas.Int.{ints}
-use Rattle.adr_schema.specs.declared.content.Value.TheVariants.{Text as Words, Number as Figures}
+use Rattle.adr_values.specs.declared.content.Value.TheVariants.{Text as Words, Number as Figures}
 use Rattle.adr_call.specs.declared.write.Write.TheVariants.{Add, Delete, Link}
 use Rattle.adr_event.specs.declared.event.Event.{Event}
 use Rattle.adr_event.specs.declared.event.Event.TheVariants as kinds

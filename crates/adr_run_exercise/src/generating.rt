@@ -8,7 +8,7 @@ ghost use Rattle.adr_run_exercise.specs.Generated.{beginning, collections, delet
 use crate::lines::{push_beginning, push_collections, push_groups, push_rounds};
 use crate::persons::{push_deletions, push_persons};
 use adr_event::Event;
-use adr_schema::NoMemory;
+use adr_values::NoMemory;
 use std::alloc::Global;
 
 /// Adds the lines up to the last person.

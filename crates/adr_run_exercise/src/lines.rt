@@ -7,7 +7,7 @@ ghost use Rattle.adr_run_exercise.specs.Generated.{beginning, collections, group
 use crate::words::{group, identifier, numbered, root};
 use adr_call::Write;
 use adr_event::Event;
-use adr_schema::{Assignments, NoMemory, Text, Value};
+use adr_values::{Assignments, NoMemory, Text, Value};
 use std::alloc::{AllocError, Global};
 
 /// The number of the attribute groupType.

@@ -9,7 +9,7 @@ use crate::lines::{one_value, push, push_cycle, push_time};
 use crate::words::{controller, group, identifier, numbered, person, root};
 use adr_call::Write;
 use adr_event::Event;
-use adr_schema::{NoMemory, Text, Value};
+use adr_values::{NoMemory, Text, Value};
 use std::alloc::Global;
 
 /// The number of the class user.

@@ -3,8 +3,7 @@
 ghost use Rattle.std.specs.Prelude.{◌≡◌, ◌<◌, ◌^◌, IfOk};
 ghost use Rattle.adr_run_exercise.specs.Generated.{controller, group, identifier, numbered, person, root};
 
-use adr_guid::Guid;
-use adr_schema::{NoMemory, Text};
+use adr_values::{Guid, NoMemory, Text};
 use std::alloc::Global;
 
 /// The name of a controller: 0 is A, 1 is B, 2 is C, and any other number is D.

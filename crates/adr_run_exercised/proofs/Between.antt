@@ -4,8 +4,8 @@ use Rattle.std.specs.Prelude.{codes}
 use Rattle.std.specs.Str.{bytes_eq}
 use Rattle.adr_event.specs.declared.event.Event.{Event}
 use Rattle.adr_event.specs.declared.event.Event.TheVariants as events
-use Rattle.adr_vector.specs.Vector.{Cursors, at, at_most}
-use Rattle.adr_vector.proofs.Comparing.{everywhere_from_at_most, at_most_from_everywhere}
+use Rattle.adr_values.specs.Vector.{Cursors, at, at_most}
+use Rattle.adr_values.proofs.Comparing.{everywhere_from_at_most, at_most_from_everywhere}
 use Rattle.adr_model.specs.Member.{Member, Each}
 use Rattle.adr_model.specs.Reflects.{Numbers, AtMost}
 use Rattle.adr_model.specs.Store.{Store, State}

@@ -7,9 +7,9 @@ use Rattle.adr_call.specs.declared.refusal.CollectRefusal.{CollectRefusal}
 use Rattle.adr_disk.specs.declared.memory.Crash.TheVariants.{Kept, Lost, Torn}
 use Rattle.adr_event.specs.declared.event.Event.{Event}
 use Rattle.adr_event.specs.declared.event.Event.TheVariants as events
-use Rattle.adr_stamp.specs.declared.Oid.{Oid}
-use Rattle.adr_vector.specs.Vector.{at}
-use Rattle.adr_vector.proofs.Joining.{raised_elsewhere}
+use Rattle.adr_values.specs.declared.stamp.Oid.{Oid}
+use Rattle.adr_values.specs.Vector.{at}
+use Rattle.adr_values.proofs.Joining.{raised_elsewhere}
 use Rattle.adr_model.specs.Member.{Member, Each}
 use Rattle.adr_model.specs.Update.{Update, inv_of}
 use Rattle.adr_model.specs.Reflects.{Covers, knowledge_of}

@@ -8,14 +8,14 @@ use Rattle.adr_call.specs.declared.write.Write.TheVariants as asked
 use Rattle.adr_disk.specs.declared.memory.Crash.TheVariants.{Kept, Lost, Torn}
 use Rattle.adr_event.specs.declared.event.Event.{Event}
 use Rattle.adr_event.specs.declared.event.Event.TheVariants as events
-use Rattle.adr_schema.specs.Assignments.{Given}
-use Rattle.adr_schema.specs.declared.content.Content.TheVariants.{Values}
-use Rattle.adr_stamp.specs.declared.LinkStamp.{LinkStamp}
-use Rattle.adr_stamp.specs.declared.Oid.{Oid}
-use Rattle.adr_stamp.specs.declared.Unit.{Unit as Named}
-use Rattle.adr_stamp.specs.declared.Unit.TheVariants.{Object}
-use Rattle.adr_stamp.specs.Order.{unit_order}
-use Rattle.adr_stamp.proofs.Units.{units_total, exact_units}
+use Rattle.adr_values.specs.Assignments.{Given}
+use Rattle.adr_values.specs.declared.content.Content.TheVariants.{Values}
+use Rattle.adr_values.specs.declared.stamp.LinkStamp.{LinkStamp}
+use Rattle.adr_values.specs.declared.stamp.Oid.{Oid}
+use Rattle.adr_values.specs.declared.stamp.Unit.{Unit as Named}
+use Rattle.adr_values.specs.declared.stamp.Unit.TheVariants.{Object}
+use Rattle.adr_values.specs.Order.{unit_order}
+use Rattle.adr_values.proofs.Units.{units_total, exact_units}
 use Rattle.adr_model.specs.Member.{Member, Each}
 use Rattle.adr_model.specs.Update.{Identifier, Update, unit_of}
 use Rattle.adr_model.specs.Store.{Held, Store, State, updates_of, kept_of, mark_of}

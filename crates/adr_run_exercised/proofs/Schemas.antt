@@ -2,7 +2,7 @@
 use Rattle.std.proofs.Common.{◌≡◌, ℕ, List, [], ◌∷◌, true, false, Some, refl, sym, ap, ◌∙◌, subst}
 use Rattle.adr_event.specs.declared.event.Event.{Event}
 use Rattle.adr_event.specs.declared.event.Event.TheVariants as events
-use Rattle.adr_vector.specs.Vector.{joined}
+use Rattle.adr_values.specs.Vector.{joined}
 use Rattle.adr_model.specs.Store.{Store, State}
 use Rattle.adr_model.specs.Change.{Change, after}
 use Rattle.adr_model.specs.Write.{Write, items_written, own_change, write_refusal, write}

@@ -14,8 +14,8 @@ ghost use Rattle.adr_run_keeper.specs.Goes.{GoesAs};
 use crate::planned::PlannedKeeper;
 use adr_controller::Controller;
 use adr_disk::Crash;
-use adr_failure::NoMemory;
 use adr_journal::Keeper;
+use adr_values::NoMemory;
 use std::alloc::Global;
 
 /// Lets so many writes and syncs of its disk pass, and crashes within the next.

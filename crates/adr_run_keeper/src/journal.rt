@@ -4,9 +4,9 @@ ghost use Rattle.std.specs.Prelude.{◌≡◌, false, None};
 
 use crate::planned::PlannedKeeper;
 use adr_disk::Crash;
-use adr_failure::NoMemory;
 use adr_journal::{Form, Journal, Keeper};
 use adr_run_disk::MemDisk;
+use adr_values::NoMemory;
 use std::alloc::Global;
 
 /// A journal on an empty disk, without a plan.

@@ -9,7 +9,7 @@ mod controller;
 mod journal;
 mod planned;
 
-pub use adr_failure::NoMemory;
+pub use adr_values::NoMemory;
 pub use controller::{
     bytes, commits_go_as_planned, crash, fail_after, is_stopped, revive, stop_after,
 };

@@ -14,8 +14,8 @@ ghost use Rattle.adr_journal.specs.declared.keeper.KeeperRefusal.{KeeperRefusal 
 ghost use Rattle.adr_journal.specs.declared.keeper.StartRefusal.{StartRefusal as Refused};
 
 use adr_disk::Crash;
-use adr_failure::NoMemory;
 use adr_journal::Keeper;
+use adr_values::NoMemory;
 use std::alloc::Global;
 
 /// A keeper for which a crash or a failed call can be planned.

@@ -7,8 +7,8 @@ use Rattle.std.specs.Str.{is_utf8}
 use Rattle.std.proofs.lemmas.Bool.{and_from, and_parts, le-ltb, lt-ltb, ltb-true, not-true}
 use Rattle.std.proofs.lemmas.Str.{is_utf8-from_IsUtf8}
 use Rattle.adr_disk.specs.declared.memory.Crash.TheVariants.{Kept, Lost, Torn}
-use Rattle.adr_schema.specs.Assignments.{Given}
-use Rattle.adr_schema.specs.declared.content.Value.{Value as Item}
+use Rattle.adr_values.specs.Assignments.{Given}
+use Rattle.adr_values.specs.declared.content.Value.{Value as Item}
 use Rattle.adr_call.specs.declared.write.Write.TheVariants.{Add, Modify}
 use Rattle.adr_call.specs.declared.report.Report.{Report as Asked}
 use Rattle.adr_call.specs.declared.report.Report.TheVariants.{Meta}

@@ -10,12 +10,11 @@ use Token::{Attribute, Class, Identifier, Name, Number, Quoted, Word};
 use adr_call::{Report, Write};
 use adr_disk::Crash;
 use adr_event::Event;
-use adr_guid::Guid;
 use adr_schedule::crash_word;
-use adr_schema::{Assignments, NoMemory, Text, Value};
 use adr_token::{
     push, push_attribute, push_class, push_identifier, push_number, push_set, push_text,
 };
+use adr_values::{Assignments, Guid, NoMemory, Text, Value};
 use std::alloc::Global;
 
 /// A token of a line.

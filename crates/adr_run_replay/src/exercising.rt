@@ -19,13 +19,12 @@ use adr_answers::{push_number_behind, truth_text};
 use adr_call::{Directory, Entry, Guids};
 use adr_checks::attribute_kind;
 use adr_event::Event;
-use adr_failure::NoMemory;
 use adr_io::Sink;
 use adr_run_exercise::generate;
 use adr_run_world::{Tally, World};
 use adr_schedule::discard;
-use adr_schema::{Kind, Text};
 use adr_token::push;
+use adr_values::{Kind, NoMemory, Text};
 use std::alloc::{AllocError, Global};
 use std::marker::Model;
 

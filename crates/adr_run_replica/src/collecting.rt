@@ -16,7 +16,7 @@ use adr_law_recorded::{
     collections_are_recorded, logged_states_fit, recorded_changes_leave_logged_states,
 };
 use adr_outcome::collect_refused;
-use adr_schema::NoMemory;
+use adr_values::NoMemory;
 use std::alloc::Global;
 
 impl Replica {

@@ -13,8 +13,8 @@ use adr_outcome::full;
 use adr_records::Records;
 use adr_run_disk::MemDisk;
 use adr_run_keeper::{PlannedKeeper, is_stopped};
-use adr_schema::NoMemory;
 use adr_state::LOG_LIMIT;
+use adr_values::NoMemory;
 use std::alloc::AllocError;
 
 /// What hindered a call, if anything.

@@ -9,8 +9,8 @@ use crate::replica::Replica;
 use crate::told::{Deed, Told};
 use adr_call::Write;
 use adr_cycle::{Reply, Request};
-use adr_guid::Guid;
 use adr_state::State;
+use adr_values::Guid;
 use std::marker::Model;
 
 /// The book of a run: what clients wrote, in the order in which it became safe, and the log of each incarnation, by its

@@ -25,7 +25,6 @@ use adr_call::{Outcome, Write};
 use adr_controller::{CallRefusal, Controller, Keeper, KeeperRefusal, StartRefusal};
 use adr_cycle::{Reply, Request};
 use adr_disk::Crash;
-use adr_guid::Guid;
 use adr_journal::Journal;
 use adr_law_recorded::{
     logged_states_fit, new_controllers_may_begin, quarantines_are_recorded,
@@ -36,8 +35,8 @@ use adr_outcome::{sent, serve_refused, take_refused, unsent, write_refused};
 use adr_records::Records;
 use adr_run_disk::MemDisk;
 use adr_run_keeper::{self as rehearsal, PlannedKeeper};
-use adr_schema::{NoMemory, Text};
 use adr_state::State;
+use adr_values::{Guid, NoMemory, Text};
 use std::alloc::{AllocError, Global};
 use std::marker::Model;
 

@@ -11,11 +11,10 @@ ghost use Rattle.adr_run_replica.specs.Led.{Adopts, Unadopted};
 use crate::replica::Replica;
 use adr_call::{AdoptRefusal, Failure, Outcome, Table};
 use adr_controller::KeeperRefusal;
-use adr_guid::Guid;
 use adr_outcome::{adopt_refused, quarantined};
 use adr_restore::Image;
-use adr_schema::{NoMemory, Text};
 use adr_state::LOG_LIMIT;
+use adr_values::{Guid, NoMemory, Text};
 use std::alloc::Global;
 
 impl Replica {

@@ -7,9 +7,8 @@ use crate::keepers::goes_as_planned;
 use crate::past::KeptCall;
 use crate::replica::Replica;
 use adr_controller::Controller;
-use adr_guid::Guid;
 use adr_run_keeper::{bytes, with_bytes};
-use adr_schema::{NoMemory, Text};
+use adr_values::{Guid, NoMemory, Text};
 use std::alloc::{AllocError, Global};
 use std::marker::Model;
 

@@ -7,8 +7,8 @@ ghost use Rattle.adr_run_replica.specs.Told.{keeping_none, told_of};
 use crate::replica::Replica;
 use adr_call::Write;
 use adr_cycle::{Reply, Request};
-use adr_guid::Guid;
 use adr_state::State;
+use adr_values::Guid;
 use std::marker::Model;
 
 /// What a past is told, also before a call that may commit something. The types behind the references are parameters,

@@ -2,8 +2,8 @@
 use Rattle.std.proofs.Common.{ℕ, ◌≤◌, ◌≡◌, Bool, true, false, List, length, Option, Some, None, Result, Ok, Err, refl}
 use Rattle.std.specs.Prelude.{nat_le}
 use Rattle.std.proofs.lemmas.Bool.{leb-true}
-use Rattle.adr_schema.specs.declared.refusal.SchemaRefusal.{SchemaRefusal}
-use Rattle.adr_schema.specs.declared.refusal.SchemaRefusal.TheVariants as schema
+use Rattle.adr_values.specs.declared.refusal.SchemaRefusal.{SchemaRefusal}
+use Rattle.adr_values.specs.declared.refusal.SchemaRefusal.TheVariants as schema
 use Rattle.adr_call.specs.declared.outcome.Outcome.{Outcome}
 use Rattle.adr_call.specs.declared.outcome.Outcome.TheVariants as outcomes
 use Rattle.adr_call.specs.declared.refusal.Table.{Table}

@@ -5,7 +5,7 @@ ghost use Rattle.std.specs.Option.{option_copied};
 ghost use Rattle.adr_model.specs.Convergence.{IsUnbound};
 ghost use Rattle.adr_model.specs.World.{bound, bound_at};
 
-use adr_schema::{NoMemory, Text};
+use adr_values::{NoMemory, Text};
 use indexmap::IndexMap;
 use std::alloc::Global;
 use std::marker::Model;

@@ -7,7 +7,7 @@ ghost use Rattle.adr_run_world.specs.Run.{IsTidy, world_of};
 
 use crate::run::Run;
 use adr_call::Outcome;
-use adr_schema::{NoMemory, Text};
+use adr_values::{NoMemory, Text};
 use std::alloc::Global;
 
 impl Run {

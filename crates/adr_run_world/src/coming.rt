@@ -12,9 +12,8 @@ ghost use Rattle.adr_run_world.specs.Run.{IsTidy, world_of};
 use crate::lists::put;
 use crate::run::Run;
 use adr_call::Outcome;
-use adr_guid::Guid;
 use adr_run_replica::{Past, Replica};
-use adr_schema::{NoMemory, Text};
+use adr_values::{Guid, NoMemory, Text};
 use std::alloc::Global;
 
 /// Begins the incarnation of a controller that is up, and gives its invocation identifier.

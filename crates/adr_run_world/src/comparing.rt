@@ -8,8 +8,7 @@ ghost use Rattle.adr_model.specs.World.{shown};
 ghost use Rattle.adr_run_world.specs.Run.{IsSoundRun, world_of};
 
 use crate::run::Run;
-use adr_schema::{NoMemory, Text};
-use adr_vector::Vector;
+use adr_values::{NoMemory, Text, Vector};
 use adr_view::{Directory, directory, formed_rows_have_back_links, same_directory, same_vector};
 use std::alloc::Global;
 

@@ -10,7 +10,7 @@ ghost use Rattle.adr_run_world.specs.Run.{world_of};
 use crate::run::Run;
 use adr_call::Outcome;
 use adr_run_replica::Replica;
-use adr_schema::Text;
+use adr_values::Text;
 
 /// Where the controller of a name stands.
 fn place_of(controllers: &[Replica], name: &Text) -> Option<usize>

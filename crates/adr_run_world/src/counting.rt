@@ -12,7 +12,7 @@ use crate::pulling::REPLY_LIMIT;
 use crate::run::Run;
 use adr_call::Outcome;
 use adr_event::{Answer, Event};
-use adr_schema::NoMemory;
+use adr_values::NoMemory;
 use std::alloc::{AllocError, Global};
 
 /// What the answers to some lines come to.

@@ -13,7 +13,7 @@ use crate::controller::not_there;
 use crate::run::Run;
 use adr_call::Outcome;
 use adr_cycle::{Reply, Request};
-use adr_schema::{NoMemory, Text};
+use adr_values::{NoMemory, Text};
 use std::alloc::Global;
 
 impl Run {

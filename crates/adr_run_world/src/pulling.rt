@@ -15,7 +15,7 @@ use adr_answers::Heading;
 use adr_call::Outcome;
 use adr_cycle::{Reply, Request};
 use adr_event::Answer;
-use adr_schema::{NoMemory, Text};
+use adr_values::{NoMemory, Text};
 use std::alloc::Global;
 
 /// The most replies of a cycle.

@@ -11,7 +11,7 @@ use crate::lists::replace;
 use crate::run::Run;
 use adr_call::Outcome;
 use adr_run_replica::Replica;
-use adr_schema::{NoMemory, Text};
+use adr_values::{NoMemory, Text};
 use std::alloc::Global;
 
 impl Run {

@@ -6,7 +6,7 @@ ghost use Rattle.adr_run_world.specs.Run.{IsSoundRun, world_of};
 
 use crate::run::Run;
 use adr_call::{Outcome, Report};
-use adr_schema::{NoMemory, Text};
+use adr_values::{NoMemory, Text};
 use adr_view::{formed_rows_have_back_links, report};
 use std::alloc::Global;
 

@@ -14,9 +14,8 @@ use crate::coming::begin_in;
 use crate::lists::replace;
 use crate::run::Run;
 use adr_call::{Failure, Outcome};
-use adr_guid::Guid;
 use adr_run_replica::Replica;
-use adr_schema::{NoMemory, Text};
+use adr_values::{Guid, NoMemory, Text};
 use std::alloc::{AllocError, Global};
 
 impl Run {

@@ -12,7 +12,7 @@ use crate::run::Run;
 use adr_answers::Heading;
 use adr_call::Outcome;
 use adr_event::{Answer, Names};
-use adr_schema::{NoMemory, Text};
+use adr_values::{NoMemory, Text};
 use std::alloc::Global;
 
 /// Whether an answer of a pull lets it go on.

@@ -5,7 +5,7 @@ ghost use Rattle.adr_run_world.specs.Room.{names_room, room_beside};
 
 use adr_answers::name_of;
 use adr_event::Event;
-use adr_schema::{NoMemory, Text};
+use adr_values::{NoMemory, Text};
 use std::alloc::Global;
 
 /// The most bytes of an answer's line beside a name, where the answer is no report.

@@ -23,7 +23,7 @@ use adr_answers::{Heading, name_of, tell};
 use adr_call::Outcome;
 use adr_event::{Answer, Event};
 use adr_io::{Fault, Sink};
-use adr_schema::NoMemory;
+use adr_values::NoMemory;
 use std::alloc::Global;
 
 impl Run {

@@ -10,7 +10,7 @@ ghost use Rattle.adr_run_world.specs.Short.{IsCutShort};
 use crate::run::Run;
 use adr_call::Outcome;
 use adr_event::Crash;
-use adr_schema::{NoMemory, Text};
+use adr_values::{NoMemory, Text};
 
 impl Run {
     /// What is answered where a controller stops, with everything on its disk.

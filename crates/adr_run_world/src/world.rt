@@ -19,7 +19,7 @@ use crate::counting::Tally;
 use crate::run::Run;
 use adr_event::Event;
 use adr_io::{Fault, Sink};
-use adr_schema::{NoMemory, Text};
+use adr_values::{NoMemory, Text};
 use adr_view::Directory;
 use std::alloc::Global;
 use std::marker::Model;

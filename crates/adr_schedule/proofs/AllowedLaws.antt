@@ -1,6 +1,6 @@
 -- An event that a line spells is allowed, and the program does it.
 use Rattle.std.proofs.Common.{◌≡◌, ℕ, List, [], ◌∷◌, Some}
-use Rattle.adr_schema.specs.Assignments.{Given}
+use Rattle.adr_values.specs.Assignments.{Given}
 use Rattle.adr_event.specs.declared.event.Event.{Event}
 use Rattle.adr_call.specs.declared.write.Write.TheVariants.{Add, Modify}
 use Rattle.adr_event.specs.declared.event.Event.TheVariants.{Write, Ask, Upgrade, Revive}

@@ -3,8 +3,8 @@ use Rattle.std.proofs.Common.{◌≡◌, ℕ, zero, suc, ◌+◌, ◌<◌, ◌�
 use Rattle.std.specs.Prelude.{◌==◌, codes}
 use Rattle.std.proofs.lemmas.Bool.{eqb-true, ne_eqb}
 use Rattle.std.proofs.lemmas.List.{nil_from_length}
-use Rattle.adr_schema.specs.Assignments.{Given}
-use Rattle.adr_schema.specs.declared.content.Value.{Value as Item}
+use Rattle.adr_values.specs.Assignments.{Given}
+use Rattle.adr_values.specs.declared.content.Value.{Value as Item}
 use Rattle.adr_token.specs.Gives.{◌>>=◌}
 use Rattle.adr_token.specs.Spelled.{SpellsSet}
 use Rattle.adr_token.specs.Values.{set_at}

@@ -9,8 +9,8 @@ use Rattle.std.specs.declared.cmp.Ordering.TheVariants.{Less, Equal, Greater}
 use Rattle.std.proofs.lemmas.Bool.{lt-ltb, le-ltb, ne_eqb}
 use Rattle.std.proofs.lemmas.Bool.Decides.{nat_tests}
 use Rattle.std.proofs.lemmas.List.{append-nil}
-use Rattle.adr_schema.specs.Assignments.{Given, attributes, given, placed}
-use Rattle.adr_schema.specs.declared.content.Value.{Value as Item}
+use Rattle.adr_values.specs.Assignments.{Given, attributes, given, placed}
+use Rattle.adr_values.specs.declared.content.Value.{Value as Item}
 use Rattle.adr_token.proofs.WordLaws.{bind_some}
 use Rattle.adr_schedule.specs.Sets.{with_set, with_sets}
 use Rattle.adr_schedule.specs.Grammar.{Set, sets, AreRising, HaveSpellings, IsSpelled}

@@ -15,7 +15,7 @@ use Rattle.adr_schedule.specs.Limits.{controller_limit, text_limit}
 use Rattle.adr_schedule.specs.Lines.{lines_of}
 use Rattle.adr_schedule.specs.Commands.{event_of, is_passed}
 use Rattle.adr_schedule.specs.Grammar.{Spells}
-use Rattle.adr_failure.specs.First.{first_of}
+use Rattle.adr_values.specs.First.{first_of}
 use Rattle.adr_schedule.specs.Seen.{Seen, nothing_seen, cause_after, if_bound, if_full, if_given, if_inv_given, is_any_unbound, is_bound, seen_after, unless_all_bound, unless_bound, IsFollowing}
 use Rattle.adr_schedule.specs.Events.{bad, before, events_from, events_of, followed, line_after, on_line, unless}
 use Rattle.adr_schedule.specs.Schedules.{FaultyTextsAreRefused, IsCause, IsFault, IsFirstFault, LinesSay, ReadTextsAreSchedules, RefusedTextsHaveTheFault, Says, SchedulesAreRead, SchedulesAreSupported}

@@ -1,7 +1,7 @@
 -- What a failure says of the reading that it comes from.
 use Rattle.std.specs.Prelude.{◌≡◌, Option, Some, Result, Err}
-use Rattle.adr_failure.specs.declared.Failure.{Failure}
-use Rattle.adr_failure.specs.declared.Failure.TheVariants.{Refused, NoMemory}
+use Rattle.adr_values.specs.declared.failure.Failure.{Failure}
+use Rattle.adr_values.specs.declared.failure.Failure.TheVariants.{Refused, NoMemory}
 use Rattle.adr_schedule.specs.declared.fault.Cause.{Cause}
 
 -- a refused event may not follow, for this cause, unless memory ran out

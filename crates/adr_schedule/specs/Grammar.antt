@@ -3,8 +3,8 @@ use Rattle.std.specs.Prelude.{◌≡◌, ℕ, ◌<◌, ◌≤◌, ◌^◌, List,
 use Rattle.std.specs.Fmt.{decimal}
 use Rattle.std.specs.List.Sorted.{IsStrictlySortedBy}
 use Rattle.std.specs.Ordering.{nat_cmp}
-use Rattle.adr_schema.specs.Assignments.{Given, attributes}
-use Rattle.adr_schema.specs.declared.content.Value.{Value as Item}
+use Rattle.adr_values.specs.Assignments.{Given, attributes}
+use Rattle.adr_values.specs.declared.content.Value.{Value as Item}
 use Rattle.adr_call.specs.declared.write.Write.{Write as Written}
 use Rattle.adr_call.specs.declared.write.Write.TheVariants.{Add, Modify, Rename, Delete, Link, Unlink}
 use Rattle.adr_call.specs.declared.report.Report.{Report as Asked}

@@ -1,6 +1,6 @@
 -- The sets of a line, as the values that they give.
 use Rattle.std.specs.Prelude.{ℕ, zero, suc, List, [], ◌∷◌, ◌==◌, if◌then◌else◌, length, Option, Some, None, is_some}
-use Rattle.adr_schema.specs.Assignments.{Given, given, placed}
+use Rattle.adr_values.specs.Assignments.{Given, given, placed}
 use Rattle.adr_token.specs.Gives.{◌>>=◌}
 use Rattle.adr_token.specs.Words.{ended, unspaced}
 use Rattle.adr_token.specs.Values.{set_at}

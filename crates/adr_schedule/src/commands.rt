@@ -14,9 +14,8 @@ use crate::verb::{CopyVerb, LinkVerb, PullVerb, UseVerb, verb_said};
 use adr_call::{Failure, Report, Write};
 use adr_disk::Crash;
 use adr_event::{Event, Verb};
-use adr_guid::Guid;
-use adr_schema::Text;
 use adr_token::{Bad, Line, Stop, without_spaces};
+use adr_values::{Guid, Text};
 use std::alloc::Global;
 
 /// A value, if nothing but spaces is left.

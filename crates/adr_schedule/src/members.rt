@@ -6,8 +6,8 @@ ghost use Rattle.adr_schedule.specs.Members.{is_member, names_at, with_name};
 
 use crate::limits::CONTROLLER_LIMIT;
 use adr_event::Names;
-use adr_schema::{Failure, Text};
 use adr_token::{Bad, Line, Stop};
+use adr_values::{Failure, Text};
 use std::alloc::Global;
 
 /// Whether a name is among these.

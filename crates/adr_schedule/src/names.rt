@@ -5,7 +5,7 @@ ghost use Rattle.adr_schedule.specs.Seen.{is_bound};
 
 use crate::fault::Cause;
 use adr_call::Failure;
-use adr_schema::Text;
+use adr_values::Text;
 use indexmap::IndexSet;
 use std::alloc::Global;
 use std::marker::Model;

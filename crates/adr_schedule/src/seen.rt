@@ -2,7 +2,7 @@
 
 ghost use Rattle.std.specs.Prelude.{◌≡◌, [], ◌∷◌, ◌++◌, ◌||◌, false, None, OnOk, IfErr};
 ghost use Rattle.adr_schedule.specs.Faults.{RefusesEvent};
-ghost use Rattle.adr_failure.specs.First.{first_of};
+ghost use Rattle.adr_values.specs.First.{first_of};
 ghost use Rattle.adr_schedule.specs.Seen.{nothing_seen, is_bound, is_any_unbound, unless_all_bound, unless_bound, if_bound, if_inv_given, if_given, if_full, cause_after, with_controller, seen_after};
 
 use crate::fault::Cause;
@@ -10,8 +10,7 @@ use crate::limits::CONTROLLER_LIMIT;
 use crate::names::Names;
 use adr_call::Failure;
 use adr_event::Event;
-use adr_guid::Guid;
-use adr_schema::Text;
+use adr_values::{Guid, Text};
 use std::alloc::Global;
 use std::marker::Model;
 

@@ -4,8 +4,8 @@ ghost use Rattle.std.specs.Prelude.{◌≡◌, ◌<◌, Some, IfErr, OnOk};
 ghost use Rattle.adr_token.specs.Gives.{Answers, Stops};
 ghost use Rattle.adr_schedule.specs.Sets.{sets_at, with_set};
 
-use adr_schema::{Assignments, Failure, Value};
 use adr_token::{Bad, Line, Stop};
+use adr_values::{Assignments, Failure, Value};
 use std::alloc::Global;
 
 /// Gives an attribute its values. That it has values already is outside the grammar.

@@ -15,10 +15,10 @@ use crate::lines::Deed;
 use adr_answers::push_nameless;
 use adr_call::{Outcome, Table, Write};
 use adr_controller::{CallRefusal, Controller, Hindrance, Keeper};
-use adr_failure::NoMemory;
 use adr_frames::OUTCOME;
 use adr_outcome::{collect_refused, full, write_refused};
 use adr_state::LOG_LIMIT;
+use adr_values::NoMemory;
 use std::alloc::Global;
 
 /// What is told of a call that was hindered: a full log is. A controller that has no state in memory tells nothing.

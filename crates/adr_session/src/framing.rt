@@ -5,8 +5,8 @@ ghost use Rattle.adr_model.specs.Store.{State as Defined};
 ghost use Rattle.adr_session.specs.Talk.{is_line};
 
 use adr_controller::{Controller, Keeper};
-use adr_failure::NoMemory;
 use adr_frames::{IDENTITY, framed, has_line_feed};
+use adr_values::NoMemory;
 use std::alloc::Global;
 
 /// The most bytes of a line.

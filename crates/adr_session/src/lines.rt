@@ -7,9 +7,9 @@ ghost use Rattle.adr_session.specs.Lines.{IsGivenDeed, deed_of, deed_said, event
 use crate::line_laws::lines_say_given_calls;
 use adr_call::{Failure, Write};
 use adr_event::{Event, Verb, verb_of_write};
-use adr_failure::NoMemory;
 use adr_schedule::event_of;
 use adr_token::{Line, Stop, utf8};
+use adr_values::NoMemory;
 use std::alloc::{AllocError, Global};
 
 /// What a client has a controller do.

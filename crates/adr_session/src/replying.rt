@@ -12,13 +12,13 @@ ghost use Rattle.adr_law_controller.specs.Keeping.{KeepsLog};
 
 use crate::ending::ServeFault;
 use adr_controller::{CallRefusal, Controller, Hindrance, Keeper};
-use adr_failure::NoMemory;
 use adr_frames::{REFUSAL, REPLY, framed};
 use adr_law_messages::served_replies_have_a_form;
 use adr_packet::{
     Refusal, Reply, Request, encode_refusal, encode_reply, replies_have_one_spelling,
 };
 use adr_state::LOG_LIMIT;
+use adr_values::NoMemory;
 use std::alloc::Global;
 
 /// The frame of a reply.

@@ -1,7 +1,7 @@
 -- The reserved rows of a GUID, when a row is put, and when an object is removed.
 use Rattle.std.proofs.Common.{◌≡◌, Bool, true, false, not, List, Option, Some, None, refl, ap, ◌∙◌, filter}
 use Rattle.std.specs.Prelude.{if◌then◌else◌, nat_lt}
-use Rattle.adr_stamp.specs.declared.Oid.{Oid}
+use Rattle.adr_values.specs.declared.stamp.Oid.{Oid}
 use Rattle.adr_model.specs.Update.{Identifier, Key, RowOf, LinkOf, deleted_attr, same_identifier, same_object}
 use Rattle.adr_model.specs.Store.{Held, updates_of, with_row, is_row_of}
 use Rattle.adr_model.specs.Change.{goes_with, killed_by, stripped, put, without_object}

@@ -1,8 +1,8 @@
 -- The length of an item by its kind of unit.
 use Rattle.std.proofs.Common.{◌≡◌, ◌+◌, List, fold, refl}
-use Rattle.adr_stamp.specs.declared.Oid.{Oid}
-use Rattle.adr_stamp.specs.declared.Unit.{Unit as Named}
-use Rattle.adr_stamp.specs.declared.Unit.TheVariants.{Object, Link}
+use Rattle.adr_values.specs.declared.stamp.Oid.{Oid}
+use Rattle.adr_values.specs.declared.stamp.Unit.{Unit as Named}
+use Rattle.adr_values.specs.declared.stamp.Unit.TheVariants.{Object, Link}
 use Rattle.adr_model.specs.Update.{Update}
 use Rattle.adr_model.specs.Change.{Item}
 use Rattle.adr_model.specs.Serve.{content_length, item_length}

@@ -2,8 +2,8 @@
 use Rattle.std.proofs.Common.{◌≡◌, ◌≢◌, ℕ, ◌<◌, Bool, true, false, ◌||◌, List, Option, Some, None, IfSome, unwrap_or, refl, arith}
 use Rattle.std.specs.Prelude.{nat_eq, nat_lt}
 use Rattle.std.proofs.lemmas.Bool.{ltb-true, ne_eqb}
-use Rattle.adr_vector.specs.Vector.{Cursors, at, joined}
-use Rattle.adr_vector.proofs.Known.{at_joined_kept}
+use Rattle.adr_values.specs.Vector.{Cursors, at, joined}
+use Rattle.adr_values.proofs.Known.{at_joined_kept}
 
 other_true : (a b : Bool) → (a || b) ≡ true → a ≡ false → b ≡ true
 other_true true b h e = absurd (cc)

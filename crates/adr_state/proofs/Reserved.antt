@@ -5,8 +5,8 @@ use Rattle.std.specs.List.{list_any, list_all}
 use Rattle.std.specs.List.Sorted.{IsStrictlySortedBy}
 use Rattle.std.specs.Option.{option_and_then}
 use Rattle.std.proofs.lemmas.Map.Views.{any-filter_same}
-use Rattle.adr_stamp.specs.declared.Oid.{Oid}
-use Rattle.adr_schema.specs.declared.content.Content.TheVariants.{Class, Name, Dead, Values}
+use Rattle.adr_values.specs.declared.stamp.Oid.{Oid}
+use Rattle.adr_values.specs.declared.content.Content.TheVariants.{Class, Name, Dead, Values}
 use Rattle.adr_model.specs.Update.{Key, RowOf, LinkOf, Said, Holds, IsPresent, Update, same_identifier, same_key, key_order, class_attr, name_attr, deleted_attr, is_death_of, ends}
 use Rattle.adr_model.specs.Winner.{winner, winners}
 use Rattle.adr_model.specs.Live.{born, objects_of, standing, yields_to, unyielding, live, is_among, live_rows}

@@ -3,9 +3,9 @@ use Rattle.std.specs.Prelude.{List, Bool, false, Option, None, not, ◌&&◌, if
 use Rattle.std.specs.List.{list_any}
 use Rattle.std.specs.Option.{option_and_then, option_map_or}
 use Rattle.std.specs.Ordering.{is_lt, ordering_then}
-use Rattle.adr_stamp.specs.Order.{birth_order, link_stamp_order}
-use Rattle.adr_stamp.specs.declared.LinkStamp.{LinkStamp}
-use Rattle.adr_stamp.specs.declared.Oid.{Oid}
+use Rattle.adr_values.specs.Order.{birth_order, link_stamp_order}
+use Rattle.adr_values.specs.declared.stamp.LinkStamp.{LinkStamp}
+use Rattle.adr_values.specs.declared.stamp.Oid.{Oid}
 use Rattle.adr_model.specs.Update.{Identifier, Update, is_death_of, same_identifier}
 use Rattle.adr_model.specs.Live.{born}
 use Rattle.adr_model.specs.Place.{Node, node_of}

@@ -1,6 +1,6 @@
 -- The rows that decide whether an object is live, and how it is named: class, name and death.
 use Rattle.std.specs.Prelude.{List, Bool, false, Option, Some, None, not, nat_lt, filter, if◌then◌else◌}
-use Rattle.adr_stamp.specs.declared.Oid.{Oid}
+use Rattle.adr_values.specs.declared.stamp.Oid.{Oid}
 use Rattle.adr_model.specs.Update.{Identifier, Key, RowOf, LinkOf, deleted_attr}
 use Rattle.adr_model.specs.Store.{Held}
 use Rattle.adr_model.specs.Write.{is_of_guid}

@@ -2,7 +2,7 @@
 use Rattle.std.specs.Prelude.{◌≡◌, List, unwrap_or}
 use Rattle.std.specs.Option.{MatchOption}
 use Rattle.std.specs.BTreeMap.{BTreeMap, get}
-use Rattle.adr_stamp.specs.Order.{identifier_order}
+use Rattle.adr_values.specs.Order.{identifier_order}
 use Rattle.adr_model.specs.Update.{Identifier}
 use Rattle.adr_model.specs.Member.{Each}
 use Rattle.adr_model.specs.Place.{node_at}

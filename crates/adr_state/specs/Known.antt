@@ -2,9 +2,9 @@
 use Rattle.std.specs.Prelude.{List, Option, Bool, ◌&&◌, ◌||◌, ◌==◌, nat_lt, IfSome, IsSome}
 use Rattle.std.specs.Map.{lookup}
 use Rattle.std.specs.BTreeMap.{is_at}
-use Rattle.adr_stamp.specs.Order.{identifier_order}
-use Rattle.adr_vector.specs.Vector.{Cursors, at}
-use Rattle.adr_vector.specs.Known.{has_cursors_of}
+use Rattle.adr_values.specs.Order.{identifier_order}
+use Rattle.adr_values.specs.Vector.{Cursors, at}
+use Rattle.adr_values.specs.Known.{has_cursors_of}
 use Rattle.adr_model.specs.Update.{Identifier}
 use Rattle.adr_model.specs.Store.{PartnerMark}
 use Rattle.adr_model.specs.Change.{Change}

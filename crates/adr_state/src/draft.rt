@@ -14,10 +14,9 @@ ghost use Rattle.adr_state.specs.Gap.{IsPlaceOf, IsGapFor};
 
 use crate::NoMemory;
 use crate::node::live_node;
-use adr_guid::Guid;
-use adr_stamp::Oid;
 use adr_table::Table;
 use adr_update::{DELETED, Held, Key, Node};
+use adr_values::{Guid, Oid};
 use std::alloc::Global;
 use std::cmp::Ordering;
 use std::marker::Model;

@@ -2,7 +2,7 @@
 
 ghost use Rattle.std.specs.Prelude.{◌≡◌, List, Some, IfOk, IsSome, OnOk, fold};
 ghost use Rattle.std.specs.BTreeMap.{get};
-ghost use Rattle.adr_stamp.specs.Order.{identifier_order};
+ghost use Rattle.adr_values.specs.Order.{identifier_order};
 ghost use Rattle.adr_model.specs.Change.{put, rows_after, without_object};
 ghost use Rattle.adr_model.specs.Formed.{AreRising};
 ghost use Rattle.adr_model.specs.Store.{Held as Row};
@@ -12,10 +12,9 @@ ghost use Rattle.adr_state.specs.Drafts.{AreDrafts};
 
 use crate::NoMemory;
 use crate::draft::{Draft, core_object};
-use adr_guid::Guid;
-use adr_stamp::Oid;
 use adr_table::Table;
 use adr_update::Held;
+use adr_values::{Guid, Oid};
 use std::alloc::Global;
 use std::collections::BTreeMap;
 

@@ -2,7 +2,7 @@
 
 ghost use Rattle.std.specs.Prelude.{◌≡◌, ◌∷◌, ◌++◌, [], IfOk, OnOk, map};
 ghost use Rattle.std.specs.BTreeMap.{IsOrdered};
-ghost use Rattle.adr_stamp.specs.Order.{identifier_order};
+ghost use Rattle.adr_values.specs.Order.{identifier_order};
 ghost use Rattle.adr_model.specs.Change.{rows_after};
 ghost use Rattle.adr_model.specs.Formed.{AreRising};
 ghost use Rattle.adr_model.specs.Place.{node_at};
@@ -16,11 +16,10 @@ ghost use Rattle.adr_state.specs.Drafts.{DoRise, edit_of};
 use crate::NoMemory;
 use crate::draft::Draft;
 use crate::drafts::drafts_of;
-use adr_guid::Guid;
-use adr_stamp::Oid;
 use adr_table::Table;
 use adr_tree::Edit;
 use adr_update::Held;
+use adr_values::{Guid, Oid};
 use std::alloc::Global;
 use std::collections::BTreeMap;
 

@@ -9,10 +9,8 @@ ghost use Rattle.adr_model.specs.Serve.{content_length, item_length, value_lengt
 ghost use Rattle.adr_update.specs.Said.{said_of};
 
 use adr_change::Change;
-use adr_schema::{Content, Value};
-use adr_stamp::Unit;
 use adr_update::{Item, LOG_LIMIT, Said, Update, Written};
-use adr_vector::Vector;
+use adr_values::{Content, Unit, Value, Vector};
 use std::marker::Model;
 
 /// An image and the body of a record are shorter than this, in bytes: 4 GiB.

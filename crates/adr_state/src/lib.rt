@@ -18,14 +18,13 @@ mod state;
 
 pub use adr_change::{Change, Mode, PartnerMark, covers_birth, covers_update};
 pub use adr_checks::Schema;
-pub use adr_failure::{Failure, NoMemory};
-pub use adr_schema::Content;
-pub use adr_stamp::{LinkKey, LinkStamp, Oid, Unit};
 pub use adr_update::{
     CLASS, DELETED, Held, Item, Key, LINK_LIMIT, LOG_LIMIT, MARK_LIMIT, NAME, Node, OBJECT_LIMIT,
     Said, USN_LIMIT, Update, VERSION_LIMIT, Written, is_same, is_same_object,
 };
-pub use adr_vector::{CURSOR_LIMIT, Full, Mark, Vector};
+pub use adr_values::{
+    CURSOR_LIMIT, Content, Failure, Full, LinkKey, LinkStamp, Mark, NoMemory, Oid, Unit, Vector,
+};
 pub use lengths::{LENGTH_LIMIT, Log, item_length_within};
 pub use marks::Marks;
 pub use rows::Rows;

@@ -10,8 +10,8 @@ ghost use Rattle.adr_update.specs.Key.{key_of};
 ghost use Rattle.adr_update.specs.Referents.{referents};
 ghost use Rattle.adr_state.specs.Alive.{beats, is_elder, is_live};
 
-use adr_stamp::Oid;
 use adr_update::{Held, Key, Update, is_same};
+use adr_values::Oid;
 
 /// The first row of a key.
 pub fn row_at<'a>(rows: &[&'a Held], key: &Key) -> Option<&'a Update>

@@ -3,7 +3,7 @@
 ghost use Rattle.std.specs.Prelude.{◌≡◌, [], fold, length, Some, IfOk, IfSome, IfNone, IsSome, OnOk, is_some, unwrap_or};
 ghost use Rattle.std.specs.BTreeMap.{IsOrdered, insert_entry, is_at};
 ghost use Rattle.std.specs.Map.{lookup};
-ghost use Rattle.adr_stamp.specs.Order.{identifier_order};
+ghost use Rattle.adr_values.specs.Order.{identifier_order};
 ghost use Rattle.adr_model.specs.Update.{Identifier};
 ghost use Rattle.adr_model.specs.Store.{PartnerMark as Defined, kept_of, mark_of};
 ghost use Rattle.adr_model.specs.Change.{with_mark};
@@ -12,8 +12,7 @@ ghost use Rattle.adr_state.specs.Marks.{of_marks};
 
 use crate::NoMemory;
 use adr_change::{PartnerMark, no_mark};
-use adr_guid::Guid;
-use adr_vector::Mark;
+use adr_values::{Guid, Mark};
 use std::alloc::Global;
 use std::collections::BTreeMap;
 use std::marker::Model;
@@ -33,7 +32,7 @@ impl Model for Marks {
 
     ghost view = { λ m. m.map.entries };
 
-    ghost use Rattle.adr_stamp.specs.Order.{identifier_order};
+    ghost use Rattle.adr_values.specs.Order.{identifier_order};
     ghost use Rattle.std.specs.BTreeMap.{IsOrdered};
 
     ghost invariant = { λ m. IsOrdered identifier_order m.map };

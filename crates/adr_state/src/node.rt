@@ -12,10 +12,8 @@ ghost use Rattle.adr_state.specs.Alive.{node_by};
 
 use crate::NoMemory;
 use crate::live::{is_live, row_at};
-use adr_guid::Guid;
-use adr_schema::Content;
-use adr_stamp::Oid;
 use adr_update::{CLASS, Held, Key, NAME, Node, Said, Update, is_same};
+use adr_values::{Content, Guid, Oid};
 use std::alloc::Global;
 
 /// An object of a class by the row that names it.

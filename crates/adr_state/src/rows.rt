@@ -19,12 +19,10 @@ ghost use Rattle.adr_tree.specs.Parent.{IsParent};
 
 use crate::NoMemory;
 use crate::edits::edits_of;
-use adr_guid::Guid;
-use adr_schema::Text;
-use adr_stamp::{Oid, Unit};
 use adr_table::Table;
 use adr_tree::Tree;
 use adr_update::{Held, Key, Node};
+use adr_values::{Guid, Oid, Text, Unit};
 use std::alloc::Global;
 use std::marker::Model;
 

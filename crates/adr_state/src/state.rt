@@ -1,9 +1,9 @@
 //! A controller's state.
 
 ghost use Rattle.std.specs.Prelude.{◌≡◌, ◌<◌, ◌≤◌, [], length, true, IfOk, IfSome, IfNone, OnOk, OnErr, IsErrOf, unwrap_or};
-ghost use Rattle.adr_schema.specs.Numbered.{numbered};
-ghost use Rattle.adr_vector.specs.Refusal.{full};
-ghost use Rattle.adr_vector.specs.Vector.{joined, raised, cursor_limit};
+ghost use Rattle.adr_values.specs.Numbered.{numbered};
+ghost use Rattle.adr_values.specs.Refusal.{full};
+ghost use Rattle.adr_values.specs.Vector.{joined, raised, cursor_limit};
 ghost use Rattle.adr_model.specs.Store.{empty_state, empty_store};
 ghost use Rattle.adr_model.specs.Change.{after};
 ghost use Rattle.adr_model.specs.Lengths.{first_log_end, new_log};
@@ -15,9 +15,7 @@ use crate::marks::Marks;
 use crate::rows::Rows;
 use adr_change::{Change, Mode};
 use adr_checks::Schema;
-use adr_failure::Failure;
-use adr_guid::Guid;
-use adr_vector::{Full, Vector};
+use adr_values::{Failure, Full, Guid, Vector};
 use std::alloc::Global;
 use std::marker::Model;
 
@@ -61,7 +59,7 @@ impl Model for State {
     ghost Value = { Defined };
 
     ghost use Rattle.std.specs.Prelude.{◌≡◌, []};
-    ghost use Rattle.adr_schema.specs.Numbered.{numbered};
+    ghost use Rattle.adr_values.specs.Numbered.{numbered};
     ghost use Rattle.adr_change.specs.Mode.{mode_of};
 
     ghost view = { λ s. record { dsa = s.dsa; inv = s.inv; mode = mode_of s.mode; store = record { schema = s.schema.number; usn = s.usn; rows = s.rows; vector = s.vector; times = []; purged = s.purged; marks = s.marks } } };

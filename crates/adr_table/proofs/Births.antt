@@ -8,10 +8,10 @@ use Rattle.std.specs.declared.cmp.Ordering.{Ordering}
 use Rattle.std.specs.declared.cmp.Ordering.TheVariants.{Less, Equal, Greater}
 use Rattle.std.proofs.lemmas.Bool.Decides.{nat_tests}
 use Rattle.std.proofs.lemmas.Map.Keys.{sorted_head, sorted_tail}
-use Rattle.adr_stamp.specs.declared.Oid.{Oid}
-use Rattle.adr_stamp.specs.Order.{object_order}
-use Rattle.adr_stamp.proofs.Exact.{exact_objects}
-use Rattle.adr_stamp.specs.contracts.OidOrd.TheImpl.Laws.{total-law as objects_total}
+use Rattle.adr_values.specs.declared.stamp.Oid.{Oid}
+use Rattle.adr_values.specs.Order.{object_order}
+use Rattle.adr_values.proofs.ExactOrders.{exact_objects}
+use Rattle.adr_values.specs.contracts.stamp.OidOrd.TheImpl.Laws.{total-law as objects_total}
 use Rattle.adr_model.specs.Formed.{AreRising}
 use Rattle.adr_model.specs.Live.{born, objects_of}
 use Rattle.adr_model.specs.Update.{Key, RowOf, LinkOf, Update, class_attr, key_order}

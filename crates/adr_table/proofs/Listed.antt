@@ -7,9 +7,9 @@ use Rattle.std.specs.BTreeMap.{is_at}
 use Rattle.std.specs.BTreeSet.{BTreeSet, contains}
 use Rattle.std.specs.Ordering.{ordering_then}
 use Rattle.std.specs.declared.cmp.Ordering.TheVariants.{Less, Equal}
-use Rattle.adr_stamp.specs.Order.{object_order}
-use Rattle.adr_stamp.specs.declared.Oid.{Oid}
-use Rattle.adr_stamp.proofs.Exact.{exact_objects}
+use Rattle.adr_values.specs.Order.{object_order}
+use Rattle.adr_values.specs.declared.stamp.Oid.{Oid}
+use Rattle.adr_values.proofs.ExactOrders.{exact_objects}
 use Rattle.adr_model.proofs.Keys.{equal_order}
 use Rattle.adr_model.proofs.Members.{some_passes}
 use Rattle.adr_model.specs.Change.{killed_by}

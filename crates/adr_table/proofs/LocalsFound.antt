@@ -13,9 +13,9 @@ use Rattle.std.specs.List.Sorted.{IsStrictlySortedBy}
 use Rattle.std.proofs.lemmas.Bool.Decides.{nat_tests}
 use Rattle.std.proofs.lemmas.Cmp.{nat_cmp_total, tied_itself}
 use Rattle.std.proofs.lemmas.Map.Keys.{le_from_not_gt}
-use Rattle.adr_stamp.specs.declared.Unit.{Unit as Named}
-use Rattle.adr_stamp.specs.Order.{unit_order}
-use Rattle.adr_stamp.proofs.Units.{units_total, exact_units}
+use Rattle.adr_values.specs.declared.stamp.Unit.{Unit as Named}
+use Rattle.adr_values.specs.Order.{unit_order}
+use Rattle.adr_values.proofs.Units.{units_total, exact_units}
 use Rattle.adr_model.proofs.Keys.{equal_order}
 use Rattle.adr_model.proofs.Members.{in_filter, in_filter_map, mapped_member, member_mapped, of_filter, of_filter_map, some_passes}
 use Rattle.adr_model.specs.Member.{Member, Each}

@@ -8,13 +8,13 @@ use Rattle.std.specs.declared.cmp.Ordering.{Ordering}
 use Rattle.std.specs.declared.cmp.Ordering.TheVariants.{Less, Equal, Greater}
 use Rattle.std.proofs.lemmas.Bool.Decides.{nat_tests}
 use Rattle.std.proofs.lemmas.Cmp.{eq_by_cmp_equiv, nat_list_cmp_total, tied_itself}
-use Rattle.adr_stamp.specs.declared.Birth.{Birth}
-use Rattle.adr_stamp.specs.declared.Oid.{Oid}
-use Rattle.adr_stamp.specs.declared.Unit.{Unit as Named}
-use Rattle.adr_stamp.specs.declared.Unit.TheVariants.{Object, Link}
-use Rattle.adr_stamp.specs.Order.{birth_order, identifier_order, object_order, unit_order}
-use Rattle.adr_stamp.specs.contracts.BirthOrd.TheImpl.Laws.{total-law as births_total}
-use Rattle.adr_stamp.proofs.Units.{units_total, exact_units}
+use Rattle.adr_values.specs.declared.stamp.Birth.{Birth}
+use Rattle.adr_values.specs.declared.stamp.Oid.{Oid}
+use Rattle.adr_values.specs.declared.stamp.Unit.{Unit as Named}
+use Rattle.adr_values.specs.declared.stamp.Unit.TheVariants.{Object, Link}
+use Rattle.adr_values.specs.Order.{birth_order, identifier_order, object_order, unit_order}
+use Rattle.adr_values.specs.contracts.stamp.BirthOrd.TheImpl.Laws.{total-law as births_total}
+use Rattle.adr_values.proofs.Units.{units_total, exact_units}
 use Rattle.adr_model.proofs.Keys.{equal_order}
 use Rattle.adr_model.specs.Update.{Key, RowOf, LinkOf, same_unit, unit_of}
 use Rattle.adr_model.specs.Store.{Held}

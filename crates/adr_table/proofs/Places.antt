@@ -6,10 +6,10 @@ use Rattle.std.specs.declared.cmp.Ordering.{Ordering}
 use Rattle.std.specs.declared.cmp.Ordering.TheVariants.{Less, Equal, Greater}
 use Rattle.std.specs.Cmp.{IsTotalOrder}
 use Rattle.std.proofs.lemmas.Map.Lookups.{CmpEqualImpliesEq, exact_pairs, exact_unsigned, exact_bytes}
-use Rattle.adr_stamp.specs.declared.Oid.{Oid}
-use Rattle.adr_stamp.specs.declared.Birth.{Birth}
-use Rattle.adr_stamp.specs.Order.{identifier_order, birth_order, object_order}
-use Rattle.adr_stamp.proofs.Exact.{exact_births, exact_objects}
+use Rattle.adr_values.specs.declared.stamp.Oid.{Oid}
+use Rattle.adr_values.specs.declared.stamp.Birth.{Birth}
+use Rattle.adr_values.specs.Order.{identifier_order, birth_order, object_order}
+use Rattle.adr_values.proofs.ExactOrders.{exact_births, exact_objects}
 use Rattle.std.specs.BTreeMap.{is_at}
 use Rattle.adr_model.proofs.Keys.{equal_order, exact_keys}
 use Rattle.adr_model.specs.Update.{Identifier, Key, RowOf, LinkOf, key_order}

@@ -9,9 +9,9 @@ use denote.Ref.{Bor}
 use Rattle.std.specs.declared.cmp.Ordering.TheVariants.{Less, Equal}
 use Rattle.std.proofs.lemmas.Cmp.{tied_itself}
 use Rattle.std.proofs.lemmas.Map.Keys.{sorted_head, sorted_tail}
-use Rattle.adr_stamp.specs.declared.Oid.{Oid}
-use Rattle.adr_stamp.specs.declared.LinkKey.{LinkKey}
-use Rattle.adr_stamp.specs.declared.Unit.TheVariants.{Link}
+use Rattle.adr_values.specs.declared.stamp.Oid.{Oid}
+use Rattle.adr_values.specs.declared.stamp.LinkKey.{LinkKey}
+use Rattle.adr_values.specs.declared.stamp.Unit.TheVariants.{Link}
 use Rattle.adr_model.proofs.Keys.{equal_order, exact_keys, keys_total}
 use Rattle.adr_model.specs.Formed.{AreRising}
 use Rattle.adr_model.specs.Update.{Identifier, Key, RowOf, LinkOf, Update, key_order, same_key, same_unit, unit_of}

@@ -7,8 +7,8 @@ use Rattle.std.specs.BTreeMap.{BTreeMap, get, is_at}
 use Rattle.std.specs.BTreeSet.{BTreeSet, contains}
 use Rattle.std.proofs.lemmas.Bool.{cases_lt}
 use Rattle.std.proofs.lemmas.List.{get_or_default}
-use Rattle.adr_stamp.specs.declared.LinkKey.{LinkKey}
-use Rattle.adr_stamp.specs.declared.Oid.{Oid}
+use Rattle.adr_values.specs.declared.stamp.LinkKey.{LinkKey}
+use Rattle.adr_values.specs.declared.stamp.Oid.{Oid}
 use Rattle.adr_model.proofs.Keys.{equal_order}
 use Rattle.adr_model.specs.Update.{Key, RowOf, LinkOf}
 use Rattle.adr_model.specs.Store.{Held, with_row}

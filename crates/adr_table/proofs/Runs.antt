@@ -12,13 +12,13 @@ use Rattle.std.specs.declared.cmp.Ordering.{Ordering}
 use Rattle.std.specs.declared.cmp.Ordering.TheVariants.{Less, Equal, Greater}
 use Rattle.std.specs.Cmp.{IsTotalOrder, bool_cmp_total}
 use Rattle.std.specs.Cmp.Lexicographic.{options_total}
-use Rattle.adr_stamp.specs.contracts.BirthOrd.TheImpl.Laws.{total-law as births_total}
+use Rattle.adr_values.specs.contracts.stamp.BirthOrd.TheImpl.Laws.{total-law as births_total}
 use Rattle.std.proofs.lemmas.Cmp.{tied_itself, upto, nat_list_cmp_total}
 use Rattle.std.proofs.lemmas.Map.Lookups.{CmpEqualImpliesEq, exact_bytes}
 use Rattle.std.proofs.lemmas.Bool.Decides.{nat_tests}
-use Rattle.adr_stamp.specs.declared.Oid.{Oid}
-use Rattle.adr_stamp.specs.declared.Birth.{Birth}
-use Rattle.adr_stamp.specs.Order.{identifier_order, birth_order, object_order}
+use Rattle.adr_values.specs.declared.stamp.Oid.{Oid}
+use Rattle.adr_values.specs.declared.stamp.Birth.{Birth}
+use Rattle.adr_values.specs.Order.{identifier_order, birth_order, object_order}
 use Rattle.adr_model.proofs.Keys.{equal_order}
 use Rattle.adr_model.specs.Update.{same_identifier}
 use Rattle.adr_model.specs.Store.{Held}
@@ -28,7 +28,7 @@ use Rattle.adr_table.specs.Place.{IsStart, place_order, is_in_run}
 use Rattle.adr_table.specs.Slots.{flat, row_at}
 use Rattle.adr_table.proofs.Places.{places_total, exact_places, exact_flags, exact_options}
 use Rattle.adr_table.proofs.Seen.{Entries}
-use Rattle.adr_stamp.proofs.Exact.{exact_births}
+use Rattle.adr_values.proofs.ExactOrders.{exact_births}
 
 -- ---- bounds
 

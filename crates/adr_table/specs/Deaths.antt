@@ -1,8 +1,8 @@
 -- Hints of the objects that are held dead.
 use Rattle.std.specs.Prelude.{◌≡◌, IfSome, true}
 use Rattle.std.specs.BTreeSet.{BTreeSet, contains}
-use Rattle.adr_stamp.specs.Order.{object_order}
-use Rattle.adr_stamp.specs.declared.Oid.{Oid}
+use Rattle.adr_values.specs.Order.{object_order}
+use Rattle.adr_values.specs.declared.stamp.Oid.{Oid}
 use Rattle.adr_model.specs.Change.{killed_by}
 use Rattle.adr_model.specs.Member.{Each}
 use Rattle.adr_model.specs.Update.{Key}

@@ -2,8 +2,8 @@
 
 ghost use Rattle.std.specs.Prelude.{◌≡◌, IfOk, OnOk, filter, is_some, true};
 ghost use Rattle.std.specs.BTreeSet.{contains};
-ghost use Rattle.adr_stamp.specs.Order.{object_order};
-ghost use Rattle.adr_stamp.specs.declared.Oid.{Oid as Named};
+ghost use Rattle.adr_values.specs.Order.{object_order};
+ghost use Rattle.adr_values.specs.declared.stamp.Oid.{Oid as Named};
 ghost use Rattle.adr_model.specs.Change.{killed_by};
 ghost use Rattle.adr_model.specs.Update.{Key as Defined};
 ghost use Rattle.adr_update.specs.Key.{key_of};
@@ -13,8 +13,8 @@ ghost use Rattle.adr_table.specs.Deaths.{AreListed, IsListed};
 
 use crate::NoMemory;
 use crate::slots::{Slots, push_row};
-use adr_stamp::Oid;
 use adr_update::{Held, Key};
+use adr_values::Oid;
 use std::alloc::Global;
 use std::collections::BTreeSet;
 

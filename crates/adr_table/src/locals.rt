@@ -13,8 +13,8 @@ ghost use Rattle.adr_table.specs.Locals.{AreLocated, IsLocated, above, greatest,
 use crate::NoMemory;
 use crate::place::Place;
 use crate::slots::Slots;
-use adr_stamp::{LinkKey, Oid, Unit};
 use adr_update::Held;
+use adr_values::{LinkKey, Oid, Unit};
 use std::alloc::Global;
 use std::collections::BTreeSet;
 use std::ops::Bound;

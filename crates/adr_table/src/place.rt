@@ -5,9 +5,8 @@ ghost use Rattle.adr_model.specs.Update.{LinkOf};
 ghost use Rattle.adr_update.specs.Key.{key_of};
 ghost use Rattle.adr_table.specs.Place.{IsStart, guid_start, is_in_run, is_of_class, links_start, place_of, rows_start, values_start};
 
-use adr_guid::Guid;
-use adr_stamp::{Birth, LinkKey, Oid};
 use adr_update::{CLASS, Key};
+use adr_values::{Birth, Guid, LinkKey, Oid};
 
 /// The first attribute whose rows go when the object dies.
 const FIRST_VALUE: u16 = 4;

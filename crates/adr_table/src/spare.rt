@@ -9,8 +9,8 @@ use crate::locals::{Local, name};
 use crate::place::Place;
 use crate::table::Table;
 use crate::{NoMemory, back, deaths, locals};
-use adr_stamp::{LinkKey, Oid};
 use adr_update::{Held, Key};
+use adr_values::{LinkKey, Oid};
 use std::alloc::Global;
 
 /// Objects whose slots may be empty once rows are written, and links and local update sequence numbers whose hints may have

@@ -19,9 +19,8 @@ use crate::deaths::deaths;
 use crate::locals::{Local, next_local, units_at};
 use crate::place::Place;
 use crate::slots::{Slots, push_row};
-use adr_guid::Guid;
-use adr_stamp::{Oid, Unit};
 use adr_update::{Held, Key};
+use adr_values::{Guid, Oid, Unit};
 use std::alloc::Global;
 use std::collections::BTreeSet;
 

@@ -17,8 +17,8 @@ use crate::slots::Slots;
 use crate::spare::Spare;
 use crate::table::Table;
 use crate::{NoMemory, back, deaths, locals};
-use adr_stamp::{LinkKey, Oid};
 use adr_update::Held;
+use adr_values::{LinkKey, Oid};
 use std::alloc::Global;
 use std::collections::BTreeSet;
 

@@ -3,10 +3,10 @@
 
 ghost use Rattle.std.specs.Prelude.{◌≡◌, ◌<◌};
 
-use adr_guid::Guid;
 use adr_run_disk::MemDisk;
 use adr_test_io::{MemSink, MemSource};
 use adr_test_outside::{MemClock, MemFresh, MemNet};
+use adr_values::Guid;
 use std::alloc::{AllocError, Global};
 
 /// Which call fails: the one after so many.

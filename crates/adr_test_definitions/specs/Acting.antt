@@ -1,9 +1,9 @@
 -- Controllers that act one after the other: each call hands on the controller that it leaves.
 use Rattle.std.specs.Prelude.{ℕ, List, [], ◌∷◌, Bool, Option, Some, None, is_some, Result, Ok, Err, length}
 use Rattle.std.specs.List.{flat_map}
-use Rattle.adr_schema.specs.declared.content.Value.{Value}
-use Rattle.adr_schema.specs.declared.content.Value.TheVariants.{Text}
-use Rattle.adr_vector.specs.declared.mark.Mark.{Mark}
+use Rattle.adr_values.specs.declared.content.Value.{Value}
+use Rattle.adr_values.specs.declared.content.Value.TheVariants.{Text}
+use Rattle.adr_values.specs.declared.mark.Mark.{Mark}
 use Rattle.adr_call.specs.declared.refusal.ServeRefusal.{ServeRefusal}
 use Rattle.adr_call.specs.declared.refusal.TakeRefusal.{TakeRefusal}
 use Rattle.adr_call.specs.declared.directory.Entry.{Entry}

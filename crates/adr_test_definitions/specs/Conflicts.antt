@@ -1,6 +1,6 @@
 -- Conflicts of two controllers: one name twice, a lost parent, a loop, and links that are written on both sides.
 use Rattle.std.specs.Prelude.{true, pos, ℕ, List, [], ◌∷◌, Some, Ok, codes}
-use Rattle.adr_schema.specs.declared.content.Value.TheVariants.{Text, Number}
+use Rattle.adr_values.specs.declared.content.Value.TheVariants.{Text, Number}
 use Rattle.adr_call.specs.declared.directory.Entry.{Entry}
 use Rattle.adr_model.specs.Update.{Identifier}
 use Rattle.adr_model.specs.Place.{identifier, root, lost_and_found}

@@ -1,7 +1,7 @@
 -- Runs of two controllers, line by line.
 use Rattle.std.specs.Prelude.{true, false, ℕ, List, [], ◌∷◌, ◌++◌, Bool, codes}
-use Rattle.adr_schema.specs.declared.content.Value.TheVariants.{Text}
-use Rattle.adr_vector.specs.declared.mark.Mark.{Mark}
+use Rattle.adr_values.specs.declared.content.Value.TheVariants.{Text}
+use Rattle.adr_values.specs.declared.mark.Mark.{Mark}
 use Rattle.adr_event.specs.declared.event.Event.{Event}
 use Rattle.adr_event.specs.declared.event.Event.TheVariants as events
 use Rattle.adr_event.specs.declared.answer.Answer.{Answer}

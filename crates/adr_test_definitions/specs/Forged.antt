@@ -1,7 +1,7 @@
 -- Rows that no controller makes, as a forged packet may bring them, and changes that share a USN.
 use Rattle.std.specs.Prelude.{ℕ, ◌+◌, List, [], ◌∷◌, ◌++◌, map, Option, codes}
-use Rattle.adr_schema.specs.declared.content.Value.TheVariants.{Text}
-use Rattle.adr_schema.specs.declared.content.Content.TheVariants.{Class, Name, Dead, Values}
+use Rattle.adr_values.specs.declared.content.Value.TheVariants.{Text}
+use Rattle.adr_values.specs.declared.content.Content.TheVariants.{Class, Name, Dead, Values}
 use Rattle.adr_call.specs.declared.directory.Entry.{Entry}
 use Rattle.adr_call.specs.declared.refusal.TakeRefusal.{TakeRefusal}
 use Rattle.adr_model.specs.Update.{Update, Key}
@@ -11,7 +11,7 @@ use Rattle.adr_model.specs.Change.{Item, Change}
 use Rattle.adr_model.specs.LocalLog.{LocalLog}
 use Rattle.adr_model.specs.Write.{row, of_object, own_change}
 use Rattle.adr_model.specs.Take.{rows_taken, item_refusal}
-use Rattle.adr_schema.specs.Numbered.{numbered}
+use Rattle.adr_values.specs.Numbered.{numbered}
 use Rattle.adr_test_definitions.specs.Acting.{first, adds, bare}
 use Rattle.adr_test_definitions.specs.Runs.{object, stamped, class_and_name}
 

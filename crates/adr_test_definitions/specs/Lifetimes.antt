@@ -1,6 +1,6 @@
 -- Restores, a database that was put back, and collected objects.
 use Rattle.std.specs.Prelude.{true, ℕ, List, [], ◌∷◌, length, Option, Some, None, Result, Ok, Err, codes}
-use Rattle.adr_schema.specs.declared.content.Value.TheVariants.{Text}
+use Rattle.adr_values.specs.declared.content.Value.TheVariants.{Text}
 use Rattle.adr_call.specs.declared.directory.Entry.{Entry}
 use Rattle.adr_call.specs.declared.refusal.WriteRefusal.{WriteRefusal}
 use Rattle.adr_call.specs.declared.refusal.WriteRefusal.TheVariants.{Quarantined}

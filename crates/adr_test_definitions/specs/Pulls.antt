@@ -1,6 +1,6 @@
 -- Pulls: equal stamps, replies that are cut, repeated, reordered and older than a restore.
 use Rattle.std.specs.Prelude.{true, false, ℕ, List, [], ◌∷◌, ◌++◌, Some, Ok, Err, codes}
-use Rattle.adr_schema.specs.declared.content.Value.TheVariants.{Text}
+use Rattle.adr_values.specs.declared.content.Value.TheVariants.{Text}
 use Rattle.adr_call.specs.declared.directory.Entry.{Entry}
 use Rattle.adr_call.specs.declared.refusal.TakeRefusal.TheVariants.{Stale, VectorBehind}
 use Rattle.adr_model.specs.Place.{identifier, root}

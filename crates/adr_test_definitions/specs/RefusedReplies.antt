@@ -1,8 +1,8 @@
 -- Refused requests and replies, and the limits of versions and USNs.
 use Rattle.std.specs.Prelude.{◌-◌, pos, ℕ, List, [], ◌∷◌, map, filter, not, Option, Some, None, codes}
-use Rattle.adr_schema.specs.declared.content.Value.TheVariants.{Text, Number}
-use Rattle.adr_schema.specs.declared.content.Content.TheVariants.{Values}
-use Rattle.adr_schema.specs.declared.refusal.SchemaRefusal.TheVariants.{BadValue}
+use Rattle.adr_values.specs.declared.content.Value.TheVariants.{Text, Number}
+use Rattle.adr_values.specs.declared.content.Content.TheVariants.{Values}
+use Rattle.adr_values.specs.declared.refusal.SchemaRefusal.TheVariants.{BadValue}
 use Rattle.adr_call.specs.declared.refusal.ItemFault.TheVariants.{Schema as BreaksSchema}
 use Rattle.adr_call.specs.declared.refusal.ServeRefusal.{ServeRefusal}
 use Rattle.adr_call.specs.declared.refusal.ServeRefusal.TheVariants as serves

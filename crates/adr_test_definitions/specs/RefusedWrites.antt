@@ -1,7 +1,7 @@
 -- Refused writes.
 use Rattle.std.specs.Prelude.{List, [], ◌∷◌, map, Option, Some, None, codes}
-use Rattle.adr_schema.specs.declared.content.Value.TheVariants.{Text}
-use Rattle.adr_schema.specs.declared.refusal.SchemaRefusal.TheVariants.{UnknownClass, UnknownAttribute, NotAllowed, MissingMust, BadValue, IsLink, NotLink, BadName}
+use Rattle.adr_values.specs.declared.content.Value.TheVariants.{Text}
+use Rattle.adr_values.specs.declared.refusal.SchemaRefusal.TheVariants.{UnknownClass, UnknownAttribute, NotAllowed, MissingMust, BadValue, IsLink, NotLink, BadName}
 use Rattle.adr_call.specs.declared.refusal.WriteRefusal.{WriteRefusal}
 use Rattle.adr_call.specs.declared.refusal.WriteRefusal.TheVariants as refused
 use Rattle.adr_model.specs.Place.{identifier, root}

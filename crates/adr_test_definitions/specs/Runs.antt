@@ -1,9 +1,9 @@
 -- Small runs, written out as updates with the directory that they define.
 use Rattle.std.specs.Prelude.{true, false, pos, ℕ, List, [], ◌∷◌, ◌++◌, Bool, codes}
-use Rattle.adr_stamp.specs.declared.Oid.{Oid}
-use Rattle.adr_stamp.specs.declared.LinkStamp.{LinkStamp}
-use Rattle.adr_schema.specs.declared.content.Value.TheVariants.{Text, Number}
-use Rattle.adr_schema.specs.declared.content.Content.TheVariants.{Class, Name, Dead, Values}
+use Rattle.adr_values.specs.declared.stamp.Oid.{Oid}
+use Rattle.adr_values.specs.declared.stamp.LinkStamp.{LinkStamp}
+use Rattle.adr_values.specs.declared.content.Value.TheVariants.{Text, Number}
+use Rattle.adr_values.specs.declared.content.Content.TheVariants.{Class, Name, Dead, Values}
 use Rattle.adr_call.specs.declared.directory.Entry.{Entry}
 use Rattle.adr_model.specs.Update.{Identifier, Update, LinkOf, IsPresent}
 use Rattle.adr_model.specs.Place.{identifier, root, lost_and_found}

@@ -24,7 +24,7 @@ ghost use Rattle.adr_test_definitions.specs.Answered.{first_person, first_person
 ghost use Rattle.adr_event.specs.declared.event.Event.TheVariants.{Ask, Rollback};
 ghost use Rattle.adr_call.specs.declared.refusal.ItemFault.TheVariants.{Schema as BreaksSchema};
 ghost use Rattle.adr_call.specs.declared.refusal.TakeRefusal.TheVariants.{BadItem};
-ghost use Rattle.adr_schema.specs.declared.refusal.SchemaRefusal.TheVariants.{UnknownAttribute};
+ghost use Rattle.adr_values.specs.declared.refusal.SchemaRefusal.TheVariants.{UnknownAttribute};
 ghost use Rattle.adr_model.specs.Update.{RowOf};
 ghost use Rattle.adr_model.specs.Convergence.{MayHappen};
 ghost use Rattle.adr_model.specs.Sound.{IsOfOneChange};

@@ -9,10 +9,10 @@ use crate::objects::number_of;
 use adr_controller::{Controller, Keeper, State};
 use adr_disk::Disk;
 use adr_file::FileDisk;
-use adr_guid::Guid;
 use adr_journal::Journal;
 use adr_law_recorded::new_controllers_may_begin;
 use adr_records::Records;
+use adr_values::Guid;
 use std::alloc::Global;
 
 /// The log of a controller, in a file.

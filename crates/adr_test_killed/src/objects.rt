@@ -4,9 +4,8 @@ ghost use Rattle.std.specs.Prelude.{◌≡◌, ◌<◌, ◌^◌, ℕ, IfOk, Some
 ghost use Rattle.adr_test_killed.specs.Objects.{IsAddition, guid_of};
 
 use adr_call::Write;
-use adr_guid::Guid;
-use adr_schema::{Assignments, NoMemory, Text};
 use adr_update::root;
+use adr_values::{Assignments, Guid, NoMemory, Text};
 use std::alloc::Global;
 use uuid::Uuid;
 

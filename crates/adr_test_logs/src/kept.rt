@@ -6,9 +6,8 @@ ghost use Rattle.adr_test_logs.specs.Takes.{TakesAll, new_state};
 use crate::written::{Deed, write_of};
 use adr_controller::{Controller, Keeper, StartRefusal, State};
 use adr_disk::Crash;
-use adr_guid::Guid;
 use adr_run_keeper::{self as rehearsal, PlannedKeeper};
-use adr_schema::NoMemory;
+use adr_values::{Guid, NoMemory};
 use std::alloc::Global;
 
 /// What meets a call of a disk: a crash within it, or else a failure.

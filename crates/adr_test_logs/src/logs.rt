@@ -17,8 +17,8 @@ use adr_law_recorded::{
 use adr_records::Records;
 use adr_run_disk::MemDisk;
 use adr_run_keeper::{in_memory, with_bytes};
-use adr_schema::NoMemory;
 use adr_test_plain::Plain;
+use adr_values::NoMemory;
 use std::alloc::Global;
 
 /// A controller's log on a disk in memory.

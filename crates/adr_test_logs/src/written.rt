@@ -7,9 +7,8 @@ ghost use Rattle.adr_model.specs.Member.{Each};
 ghost use Rattle.adr_test_logs.specs.Takes.{IsWrite};
 
 use adr_call::Write;
-use adr_guid::Guid;
-use adr_schema::{Assignments, NoMemory, Text, Value};
 use adr_update::root;
+use adr_values::{Assignments, Guid, NoMemory, Text, Value};
 use std::alloc::{AllocError, Global};
 
 /// The class of a container, and the attribute that describes one.

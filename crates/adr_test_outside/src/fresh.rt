@@ -4,9 +4,9 @@ ghost use Rattle.std.specs.Prelude.{Some};
 ghost use Rattle.adr_test_outside.specs.Memory.{Gives};
 
 use crate::supply::Supply;
-use adr_guid::Guid;
 use adr_io::Fault;
 use adr_outside::Fresh;
+use adr_values::Guid;
 
 /// Identifiers, given one after the other. That they differ is the caller's to see to.
 pub type MemFresh = Supply<Guid>;

@@ -13,10 +13,10 @@ ghost use Rattle.adr_law_journal.specs.Kept.{Layout, IsSettled};
 ghost use Rattle.adr_law_journal.specs.Recording.{log_behind};
 ghost use Rattle.adr_journal.specs.Written.{TakesBoth};
 
-use adr_failure::NoMemory;
 use adr_journal::{Form, Keeper, KeeperRefusal, OPEN_GATE, StartRefusal, new_log, replay, spell};
 use adr_run_disk::put;
 use adr_state::{Change, Log, State};
+use adr_values::NoMemory;
 use std::alloc::Global;
 use std::marker::PhantomData;
 

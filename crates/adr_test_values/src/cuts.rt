@@ -3,9 +3,8 @@
 use crate::holding::{controller, east, holding, list};
 use adr_call::{Failure, ServeRefusal};
 use adr_cycle::{Reply, ask, serve};
-use adr_schema::{Content, Octets, Value, Values};
 use adr_state::{Mode, NoMemory, State, Written};
-use adr_vector::Mark;
+use adr_values::{Content, Mark, Octets, Value, Values};
 use std::alloc::Global;
 use std::process::Abort;
 

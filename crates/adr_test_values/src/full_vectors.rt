@@ -2,7 +2,7 @@
 
 use crate::holding::{change, controller, id};
 use adr_state::{Failure, Full, Mode, State};
-use adr_vector::{CURSOR_LIMIT, Vector};
+use adr_values::{CURSOR_LIMIT, Vector};
 use std::alloc::Global;
 use std::process::Abort;
 

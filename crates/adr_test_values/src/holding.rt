@@ -1,11 +1,8 @@
 //! A controller, and what the tests have it hold.
 
 use adr_checks::Schema;
-use adr_guid::Guid;
-use adr_schema::{Content, Text};
-use adr_stamp::{Birth, LinkStamp, Oid, Stamp, Unit};
 use adr_state::{Change, Item, Key, Mode, NoMemory, Said, State, Update, Written};
-use adr_vector::Vector;
+use adr_values::{Birth, Content, Guid, LinkStamp, Oid, Stamp, Text, Unit, Vector};
 use std::alloc::Global;
 use std::process::Abort;
 

@@ -3,7 +3,7 @@
 use adr_change::{Change, Mode};
 use adr_checks::Schema;
 use adr_image::{DecodeRefusal, Failure, decode, decode_change, encode_change};
-use adr_vector::Vector;
+use adr_values::Vector;
 use std::alloc::Global;
 use std::test::Fail;
 

@@ -1,9 +1,8 @@
 //! A directory as JSON, byte for byte.
 
 use adr_call::{Directory, Entry, EntryLinks, EntryValues};
-use adr_guid::Guid;
 use adr_json::json;
-use adr_schema::Text;
+use adr_values::{Guid, Text};
 use std::alloc::Global;
 use std::test::Fail;
 

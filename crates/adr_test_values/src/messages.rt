@@ -1,8 +1,8 @@
 //! What errors say: what a schedule prints, where it prints it.
 
 use adr_call::{Failure, ItemFault, Mark, SchemaRefusal, Table, TakeRefusal, WriteRefusal};
-use adr_guid::Guid;
 use adr_io::Fault;
+use adr_values::Guid;
 use adr_wire::{DecodeRefusal, Malformed};
 use std::error::Error;
 use std::fmt::InlineText;

@@ -6,13 +6,13 @@ use adr_checks::{
 };
 use adr_disk::{Crash, Disk};
 use adr_file::FileDisk;
-use adr_guid::Guid;
 use adr_io::{Fault, ReadSource, Sink, Source, WriteSink};
 use adr_run_disk::MemDisk;
-use adr_schema::{Content, Kind, Octets, SchemaRefusal, Syntax, Text, Value, Values, fold_name};
-use adr_stamp::{Birth, LinkKey, LinkStamp, Oid, Stamp};
 use adr_token::{Line, Stop, push_class, push_set};
-use adr_vector::{Mark, Vector};
+use adr_values::{
+    Birth, Content, Guid, Kind, LinkKey, LinkStamp, Mark, Octets, Oid, SchemaRefusal, Stamp,
+    Syntax, Text, Value, Values, Vector, fold_name,
+};
 use adr_wire::{Failure, Malformed, Reader, WireRefusal, Writer};
 use std::alloc::Global;
 use std::fs;

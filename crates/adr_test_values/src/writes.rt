@@ -3,8 +3,8 @@
 use crate::holding::{east, holding, id, list, text};
 use adr_call::{Failure, WriteRefusal};
 use adr_origin::{LinkEnds, NewObject, add, delete, link, modify, rename};
-use adr_schema::{Assignments, Content, Value, Values};
 use adr_state::{Change, Mode, NoMemory, State, Written};
+use adr_values::{Assignments, Content, Value, Values};
 use std::alloc::Global;
 use std::process::Abort;
 

@@ -6,10 +6,10 @@ use Rattle.std.specs.List.{find, list_all}
 use Rattle.std.specs.Option.{option_map, option_or}
 use Rattle.std.proofs.lemmas.Bool.{and_parts, leb-true}
 use Rattle.std.proofs.lemmas.Bool.Decides.{nat_tests}
-use Rattle.adr_schema.specs.Names.{class_name, class_number, attribute_name, attribute_number}
-use Rattle.adr_schema.specs.Schemas.{spoken, schema_1}
-use Rattle.adr_schema.specs.Table.{Class, Attribute}
-use Rattle.adr_schema.proofs.Apart.{attributes_told_apart, classes_told_apart}
+use Rattle.adr_values.specs.Names.{class_name, class_number, attribute_name, attribute_number}
+use Rattle.adr_values.specs.Schemas.{spoken, schema_1}
+use Rattle.adr_values.specs.Table.{Class, Attribute}
+use Rattle.adr_values.proofs.Apart.{attributes_told_apart, classes_told_apart}
 use Rattle.adr_token.specs.Words.{strip_byte}
 use Rattle.adr_token.specs.Numbers.{figure, number_of}
 use Rattle.adr_token.specs.Classes.{attribute_at, attribute_of, class_at, class_of, percent_number}

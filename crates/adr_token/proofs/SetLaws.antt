@@ -5,7 +5,7 @@ use Rattle.std.specs.List.{list_all, position_or_len}
 use Rattle.std.proofs.Math.Seq.{take-append_seam, drop-append_seam}
 use Rattle.std.proofs.lemmas.Bool.{and_parts, eqb-true}
 use Rattle.std.proofs.lemmas.List.{append-nil, take-append-drop}
-use Rattle.adr_schema.specs.declared.content.Value.{Value as Item}
+use Rattle.adr_values.specs.declared.content.Value.{Value as Item}
 use Rattle.adr_token.specs.Gives.{Reading, ◌>>=◌}
 use Rattle.adr_token.specs.Words.{strip_byte, unspaced}
 use Rattle.adr_token.specs.Texts.{ends_word}

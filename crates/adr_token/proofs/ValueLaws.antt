@@ -13,8 +13,8 @@ use Rattle.std.proofs.lemmas.List.{take-append-drop}
 use Rattle.std.proofs.lemmas.List.Elements.{All-cons, All-head, All-nil, All-tail}
 use Rattle.std.proofs.lemmas.Slice.Eq.{bytes_eq-Decides}
 use Rattle.uuid.specs.Text.{hex_digit, lower}
-use Rattle.adr_schema.specs.declared.content.Value.{Value as Item}
-use Rattle.adr_schema.specs.declared.content.Value.TheVariants.{Text, Number, Flag, Octets, Ref}
+use Rattle.adr_values.specs.declared.content.Value.{Value as Item}
+use Rattle.adr_values.specs.declared.content.Value.TheVariants.{Text, Number, Flag, Octets, Ref}
 use Rattle.adr_token.specs.declared.texts.Place.TheVariants.{Plain}
 use Rattle.adr_token.specs.Gives.{Reading, ◌>>=◌}
 use Rattle.adr_token.specs.Words.{strip_byte}

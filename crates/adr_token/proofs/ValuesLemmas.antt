@@ -1,6 +1,6 @@
 -- Values that are read one after the other.
 use Rattle.std.proofs.Common.{◌≡◌, ℕ, suc, ◌+◌, ◌-◌, ◌<◌, ◌≤◌, true, List, [], ◌∷◌, ◌++◌, length, Some, None, refl, ap, ◌∙◌, arith, length-append}
-use Rattle.adr_schema.specs.declared.content.Value.{Value as Item}
+use Rattle.adr_values.specs.declared.content.Value.{Value as Item}
 use Rattle.adr_token.specs.Words.{strip_byte}
 use Rattle.adr_token.specs.Texts.{ends_word}
 use Rattle.adr_token.specs.Values.{value_at, values_within}

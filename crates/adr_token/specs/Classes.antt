@@ -1,7 +1,7 @@
 -- Classes and attributes: a name of the schema, or `%` and a number below 2^16.
 use Rattle.std.specs.Prelude.{ℕ, List, false, Option, Some}
 use Rattle.std.specs.Option.{option_or}
-use Rattle.adr_schema.specs.Names.{class_number, attribute_number}
+use Rattle.adr_values.specs.Names.{class_number, attribute_number}
 use Rattle.adr_token.specs.Gives.{Reading, ◌>>=◌}
 use Rattle.adr_token.specs.Words.{strip_byte, word_as}
 use Rattle.adr_token.specs.Numbers.{number_of}

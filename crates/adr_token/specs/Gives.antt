@@ -1,7 +1,7 @@
 -- Reading from the front of a line: a value and the bytes after it, or nothing where the line doesn't begin so.
 use Rattle.std.specs.Prelude.{◌≡◌, ℕ, List, ◌∷◌, Option, Some, None, Result, Ok, Err}
-use Rattle.adr_failure.specs.declared.Failure.{Failure}
-use Rattle.adr_failure.specs.declared.Failure.TheVariants.{Refused, NoMemory}
+use Rattle.adr_values.specs.declared.failure.Failure.{Failure}
+use Rattle.adr_values.specs.declared.failure.Failure.TheVariants.{Refused, NoMemory}
 use Rattle.adr_token.specs.declared.stop.Bad.{Bad}
 
 -- what stands at the front of some bytes, and what follows it

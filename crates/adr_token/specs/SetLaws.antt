@@ -1,6 +1,6 @@
 -- The laws of classes, attributes and sets: each spelling is read, what is read was spelled so, what is written is a spelling.
 use Rattle.std.specs.Prelude.{◌≡◌, ℕ, List, ◌++◌, true, Some}
-use Rattle.adr_schema.specs.declared.content.Value.{Value as Item}
+use Rattle.adr_values.specs.declared.content.Value.{Value as Item}
 use Rattle.adr_token.specs.Gives.{Reading}
 use Rattle.adr_token.specs.Values.{set_at}
 use Rattle.adr_token.specs.Texts.{ends_word}

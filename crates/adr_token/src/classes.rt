@@ -8,7 +8,7 @@ use crate::numbers::number_of;
 use crate::stop::{Bad, Stop};
 use crate::words::{Line, strip_byte};
 use adr_checks::{attribute_number, class_number};
-use adr_failure::Failure;
+use adr_values::Failure;
 
 /// The number behind a `%`.
 fn percent_number(token: &[u8]) -> Option<u16>

@@ -8,8 +8,7 @@ use crate::numbers::number_of;
 use crate::stop::{Bad, Stop};
 use crate::texts::utf8;
 use crate::words::Line;
-use adr_failure::Failure;
-use adr_guid::Guid;
+use adr_values::{Failure, Guid};
 
 fn spelled_back(text: &[u8], id: Guid) -> Option<Guid>
     ensures { result ≡ spelled_back text.now id }

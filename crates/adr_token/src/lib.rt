@@ -1,6 +1,6 @@
 //! The tokens of the schedule language and of answers: names, numbers, identifiers, texts, classes,
 //! attributes and sets of values, each with its reader, its writer and the law that joins them. It
-//! stands on GUIDs, on the values of `adr_schema` and on the names that `adr_checks` has, and knows
+//! stands on GUIDs, on the values of `adr_values` and on the names that `adr_checks` has, and knows
 //! nothing of lines, events or answers.
 #![tactic(auto)]
 

@@ -6,7 +6,7 @@ ghost use Rattle.adr_token.specs.Numbers.{base, figure, is_short, negated, numbe
 
 use crate::stop::{Bad, Stop};
 use crate::words::{Line, is_digit, strip_byte};
-use adr_failure::Failure;
+use adr_values::Failure;
 
 /// What a figure stands for.
 pub fn figure(hex: bool, byte: u8) -> Option<u8>

@@ -11,8 +11,7 @@ use crate::numbers::{figure, signed_of};
 use crate::stop::{Bad, Stop};
 use crate::texts::{ends_word, quoted, text_of};
 use crate::words::{Line, len_before, strip_byte};
-use adr_failure::Failure;
-use adr_schema::{Octets, Value};
+use adr_values::{Failure, Octets, Value};
 use std::alloc::Global;
 
 /// The byte that two figures make.

@@ -1,6 +1,6 @@
 //! Why a reader stopped.
 
-use adr_failure::Failure;
+use adr_values::Failure;
 use thiserror::Error;
 
 /// No such token stands there.

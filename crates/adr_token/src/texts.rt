@@ -9,8 +9,7 @@ ghost use Rattle.adr_token.specs.Texts.{plain_move, escaped_move, whole_move, is
 use crate::numbers::figure;
 use crate::stop::{Bad, Stop};
 use crate::words::{Line, strip_byte};
-use adr_failure::Failure;
-use adr_schema::Text;
+use adr_values::{Failure, Text};
 use std::alloc::Global;
 
 /// Where the reader stands in a text.

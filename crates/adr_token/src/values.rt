@@ -8,7 +8,7 @@ ghost use Rattle.adr_token.specs.Spelling.{two_figures, flag_text, value_token, 
 
 use crate::writing::{push, push_identifier, push_number, push_text, push_two_figures};
 use adr_checks::{attribute_name, class_name};
-use adr_schema::Value;
+use adr_values::Value;
 use itoa::Buffer;
 use std::alloc::AllocError;
 

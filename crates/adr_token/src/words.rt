@@ -3,12 +3,11 @@
 ghost use Rattle.std.specs.Prelude.{◌↔◌, ◌≡◌, ◌==◌, ◌≤◌, ◌<◌, ℕ, List, length, IsTrue, not, IfOk, IfErr, MatchOption, Some, None};
 ghost use Rattle.std.specs.List.{position_or_len, list_all};
 ghost use Rattle.adr_token.specs.Gives.{Gives, bad};
-ghost use Rattle.adr_failure.specs.declared.Failure.TheVariants.{NoMemory as no_memory};
+ghost use Rattle.adr_values.specs.declared.failure.Failure.TheVariants.{NoMemory as no_memory};
 ghost use Rattle.adr_token.specs.Words.{is_space, unspaced, word_at, is_letter, is_digit, is_name_byte, is_name, name_at, said, strip_byte};
 
 use crate::stop::{Bad, Stop};
-use adr_failure::Failure;
-use adr_schema::Text;
+use adr_values::{Failure, Text};
 use std::alloc::Global;
 use std::marker::Model;
 

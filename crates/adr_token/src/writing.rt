@@ -6,7 +6,7 @@ ghost use Rattle.adr_token.specs.Room.{TakesRoom};
 ghost use Rattle.adr_token.specs.Spelling.{escaped, two_figures, text_token, identifier_text, identifier_token};
 ghost use Rattle.uuid.specs.Text.{hex_digit, lower, hyphenated_text};
 
-use adr_guid::Guid;
+use adr_values::Guid;
 use itoa::Buffer;
 use std::alloc::AllocError;
 

@@ -12,13 +12,13 @@ use Rattle.std.specs.declared.ops.Bound.TheVariants.{Included, Unbounded}
 use Rattle.std.specs.declared.cmp.Ordering.TheVariants.{Less, Equal, Greater}
 use Rattle.std.proofs.lemmas.Cmp.{nat_cmp_total, nat_list_cmp_total, tied_itself}
 use Rattle.std.proofs.lemmas.Bool.{and_parts}
-use Rattle.adr_stamp.specs.Order.{identifier_order}
+use Rattle.adr_values.specs.Order.{identifier_order}
 use Rattle.adr_model.specs.Member.{Each, Member}
 use Rattle.adr_model.specs.Update.{Identifier, same_identifier}
 use Rattle.adr_model.specs.Place.{Node, is_fixed, lost_and_found, named_before, node_at, place, root}
 use Rattle.adr_model.specs.Shown.{gives_way, is_lost_name, is_named, name_holder}
 use Rattle.adr_model.specs.Write.{is_taken}
-use Rattle.adr_schema.specs.Folding.{folded}
+use Rattle.adr_values.specs.Folding.{folded}
 use Rattle.adr_model.proofs.Members.{each_fails, member_left, member_of_either, member_right, some_passes}
 use Rattle.adr_law_tree.specs.Breaker.{youngest, youngest_of}
 use Rattle.adr_law_tree.specs.InOrder.{AreInOrder}

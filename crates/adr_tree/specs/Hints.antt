@@ -4,8 +4,8 @@ use Rattle.std.specs.Ordering.{nat_cmp, ordering_then, is_eq}
 use Rattle.std.specs.Option.{option_cmp}
 use Rattle.std.specs.declared.cmp.Ordering.{Ordering}
 use Rattle.std.specs.BTreeSet.{BTreeSet, contains}
-use Rattle.adr_stamp.specs.Order.{identifier_order}
-use Rattle.adr_schema.specs.Folding.{folded}
+use Rattle.adr_values.specs.Order.{identifier_order}
+use Rattle.adr_values.specs.Folding.{folded}
 use Rattle.adr_model.specs.Update.{same_identifier}
 use Rattle.adr_model.specs.Place.{Node, node_at}
 use Rattle.adr_tree.specs.declared.hints.Hint.{Hint}

@@ -1,7 +1,7 @@
 -- Who stands in a place under a folded name, and the youngest of them.
 use Rattle.std.specs.Prelude.{◌&&◌, ℕ, List, Bool, Option, Some, None}
 use Rattle.std.specs.Str.{bytes_eq}
-use Rattle.adr_schema.specs.Folding.{folded}
+use Rattle.adr_values.specs.Folding.{folded}
 use Rattle.adr_model.specs.Update.{Identifier, same_identifier}
 use Rattle.adr_model.specs.Place.{Node, place}
 use Rattle.adr_law_tree.specs.Breaker.{youngest, youngest_of}

@@ -1,7 +1,7 @@
 -- A tree that is kept: its live objects, who of them breaks a loop, and hints.
 use Rattle.std.specs.Prelude.{◌≡◌, List, Bool, Some, IfSome, IsSome}
 use Rattle.std.specs.BTreeMap.{BTreeMap, get}
-use Rattle.adr_stamp.specs.Order.{identifier_order}
+use Rattle.adr_values.specs.Order.{identifier_order}
 use Rattle.adr_model.specs.Member.{Each}
 use Rattle.adr_model.specs.Update.{Identifier}
 use Rattle.adr_model.specs.Place.{Node, node_at, breaks_loop}

@@ -4,7 +4,7 @@ ghost use Rattle.std.specs.Prelude.{◌≡◌, ◌||◌, ◌&&◌, not, None, So
 ghost use Rattle.std.specs.Bool.{OnFalse};
 ghost use Rattle.std.specs.Option.{option_and_then, option_map_or};
 ghost use Rattle.std.specs.BTreeMap.{get};
-ghost use Rattle.adr_stamp.specs.Order.{identifier_order};
+ghost use Rattle.adr_values.specs.Order.{identifier_order};
 ghost use Rattle.adr_model.specs.Place.{Node as Defined, node_at};
 ghost use Rattle.adr_model.specs.Update.{Identifier, same_identifier};
 ghost use Rattle.adr_tree.specs.Children.{HasNoChild, closed_by, opened_by};
@@ -14,8 +14,8 @@ ghost use Rattle.adr_tree.specs.Slots.{IsTidy, KeepsPlaces, flag_at, seen, slot_
 use crate::hints::Hint;
 use crate::slots::{flag, set_flag, slot};
 use crate::walks::{closing, comes_to, first_breaker};
-use adr_guid::Guid;
 use adr_update::{Node, is_fixed, is_same};
+use adr_values::Guid;
 use std::collections::{BTreeMap, BTreeSet};
 use std::ops::Bound;
 

@@ -14,8 +14,8 @@ use crate::edit::Edit;
 use crate::hints::{Hint, remember};
 use crate::slots::{empty, fill, free, reserve_flag, reserve_slot};
 use crate::tree::Tree;
-use adr_guid::Guid;
 use adr_update::Node;
+use adr_values::Guid;
 
 impl Tree {
     /// Takes the live object of a GUID out.

@@ -1,7 +1,7 @@
 //! Edits of live objects.
 
-use adr_guid::Guid;
 use adr_update::Node;
+use adr_values::Guid;
 
 /// What becomes of the live object of a GUID.
 pub struct Edit {

@@ -7,9 +7,8 @@ ghost use Rattle.adr_tree.specs.declared.hints.Hint.{Hint as Defined};
 ghost use Rattle.adr_tree.specs.Hints.{child_hint, hint_order, is_in_run, name_hint, number_of};
 
 use crate::NoMemory;
-use adr_guid::Guid;
-use adr_schema::Text;
 use adr_update::Node;
+use adr_values::{Guid, Text};
 use std::collections::BTreeSet;
 
 /// A hint that an object may have a parent, as it was written, or with `name` that it may have a name of this number

@@ -14,7 +14,7 @@ mod slots;
 mod tree;
 mod walks;
 
-pub use adr_failure::NoMemory;
 pub use adr_update::Node;
+pub use adr_values::NoMemory;
 pub use edit::Edit;
 pub use tree::Tree;

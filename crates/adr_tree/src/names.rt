@@ -4,7 +4,7 @@ ghost use Rattle.std.specs.Prelude.{◌≡◌, ◌∷◌, [], ℕ, List, true, f
 ghost use Rattle.std.specs.List.{list_any};
 ghost use Rattle.std.specs.Option.{option_copied, option_map};
 ghost use Rattle.std.specs.Str.{bytes_eq};
-ghost use Rattle.adr_schema.specs.Folding.{folded};
+ghost use Rattle.adr_values.specs.Folding.{folded};
 ghost use Rattle.adr_model.specs.Member.{Each, Member};
 ghost use Rattle.adr_model.specs.Place.{Node as Defined};
 ghost use Rattle.adr_model.specs.Shown.{name_holder};
@@ -20,9 +20,8 @@ use crate::NoMemory;
 use crate::hints::{Hint, number_of};
 use crate::tree::Tree;
 use crate::walks::younger;
-use adr_guid::Guid;
-use adr_schema::{Text, fold_name};
 use adr_update::{Node, is_lost_name, is_same, lost_and_found};
+use adr_values::{Guid, Text, fold_name};
 use std::alloc::Global;
 use std::ops::Bound;
 

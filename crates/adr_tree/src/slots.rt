@@ -3,13 +3,13 @@
 ghost use Rattle.std.specs.Prelude.{◌≡◌, IfNone, IsTrue, IsSome, OnOk, cond, Some, None};
 ghost use Rattle.std.specs.Option.{option_copied};
 ghost use Rattle.std.specs.BTreeMap.{btree_map_len, get};
-ghost use Rattle.adr_stamp.specs.Order.{identifier_order};
+ghost use Rattle.adr_values.specs.Order.{identifier_order};
 ghost use Rattle.adr_model.specs.Update.{Identifier, same_identifier};
 ghost use Rattle.adr_tree.specs.Slots.{IsTidy, KeepsPlaces, flag_at, seen, slot_at};
 
 use crate::NoMemory;
-use adr_guid::Guid;
 use adr_update::Node;
+use adr_values::Guid;
 use std::collections::BTreeMap;
 
 /// The live object in the slot of a GUID.

@@ -8,8 +8,8 @@ ghost use Rattle.adr_law_tree.specs.Opening.{climbs, comes_to, first_breaker};
 ghost use Rattle.adr_tree.specs.Slots.{looks, flagged};
 
 use crate::slots::{flag, slot};
-use adr_guid::Guid;
 use adr_update::{Node, is_fixed, is_same};
+use adr_values::Guid;
 use std::collections::BTreeMap;
 
 /// The live object of a GUID that isn't fixed.

@@ -1,8 +1,8 @@
 -- What is looked for among rows: the links at an object, and units by their last local USNs.
 use Rattle.std.specs.Prelude.{◌≡◌, ◌<◌, ◌≤◌, ℕ, List, Bool, true, false, Option, Some, None, ◌==◌, filter}
 use Rattle.std.specs.List.{list_any}
-use Rattle.adr_stamp.specs.declared.Oid.{Oid}
-use Rattle.adr_stamp.specs.declared.Unit.{Unit as Named}
+use Rattle.adr_values.specs.declared.stamp.Oid.{Oid}
+use Rattle.adr_values.specs.declared.stamp.Unit.{Unit as Named}
 use Rattle.adr_model.specs.Update.{Key, RowOf, LinkOf, same_object, same_unit, unit_of}
 use Rattle.adr_model.specs.Store.{Held}
 use Rattle.adr_model.specs.Serve.{last_local, units_of}

@@ -2,13 +2,12 @@
 
 ghost use Rattle.std.specs.Prelude.{◌≡◌, ◌&&◌, codes};
 ghost use Rattle.std.specs.Str.{bytes_eq};
-ghost use Rattle.adr_schema.specs.Folding.{folded};
+ghost use Rattle.adr_values.specs.Folding.{folded};
 ghost use Rattle.adr_model.specs.Update.{same_identifier};
 ghost use Rattle.adr_model.specs.Place.{root, lost_and_found, is_fixed};
 
 use crate::key::is_same;
-use adr_guid::Guid;
-use adr_schema::Text;
+use adr_values::{Guid, Text};
 
 /// The identifier of the root.
 pub fn root() -> Guid

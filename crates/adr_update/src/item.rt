@@ -6,7 +6,7 @@ ghost use Rattle.adr_model.specs.Change.{held_of};
 use crate::NoMemory;
 use crate::held::Held;
 use crate::update::Update;
-use adr_stamp::Unit;
+use adr_values::Unit;
 use std::marker::Model;
 
 /// Rows of one object, or a link row.

@@ -9,8 +9,7 @@ ghost use Rattle.adr_model.specs.Change.{killed_by};
 ghost use Rattle.adr_update.specs.Sought.{is_link_from};
 
 use crate::limits::{CLASS, DELETED};
-use adr_guid::Guid;
-use adr_stamp::{LinkKey, Oid, Unit};
+use adr_values::{Guid, LinkKey, Oid, Unit};
 use std::cmp::Ordering;
 
 /// What an update is an update of.

@@ -13,9 +13,7 @@ mod limits;
 mod node;
 mod update;
 
-pub use adr_failure::NoMemory;
-pub use adr_schema::{Content, Text};
-pub use adr_stamp::{LinkKey, LinkStamp, Oid, Unit};
+pub use adr_values::{Content, LinkKey, LinkStamp, NoMemory, Oid, Text, Unit};
 pub use fixed::{is_fixed, is_lost_and_found, is_lost_name, is_root, lost_and_found, root};
 pub use held::Held;
 pub use item::{Item, Written};

@@ -1,12 +1,10 @@
 //! Live objects.
 
 ghost use Rattle.std.specs.Prelude.{◌≡◌, IfOk};
-ghost use Rattle.adr_schema.specs.Folding.{folded};
+ghost use Rattle.adr_values.specs.Folding.{folded};
 
 use crate::NoMemory;
-use adr_guid::Guid;
-use adr_schema::{Text, fold_name};
-use adr_stamp::{LinkStamp, Oid};
+use adr_values::{Guid, LinkStamp, Oid, Text, fold_name};
 use std::alloc::Global;
 use std::marker::Model;
 
@@ -40,7 +38,7 @@ impl Model for Node {
     ghost Value = { Defined };
 
     ghost use Rattle.std.specs.Prelude.{◌≡◌};
-    ghost use Rattle.adr_schema.specs.Folding.{folded};
+    ghost use Rattle.adr_values.specs.Folding.{folded};
 
     ghost view = { λ n. record { object = n.object; class = n.class; text = n.text; parent = n.parent; stamp = n.stamp } };
 

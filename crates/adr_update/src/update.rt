@@ -8,8 +8,7 @@ ghost use Rattle.adr_update.specs.Said.{said_of};
 
 use crate::NoMemory;
 use crate::key::{Key, is_same};
-use adr_schema::Content;
-use adr_stamp::{LinkStamp, Oid, Stamp};
+use adr_values::{Content, LinkStamp, Oid, Stamp};
 use std::alloc::Global;
 use std::marker::Model;
 

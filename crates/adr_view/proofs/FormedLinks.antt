@@ -4,9 +4,9 @@ use Rattle.std.specs.Prelude.{nat_le, nat_lt, if◌then◌else◌}
 use Rattle.std.specs.List.{list_all, find}
 use Rattle.std.specs.Option.{option_map}
 use Rattle.std.proofs.lemmas.Bool.{false≢true, and_parts, and_from}
-use Rattle.adr_schema.specs.Table.{Attribute, kind_at, is_forward}
-use Rattle.adr_schema.specs.Schemas.{schema_1, schema_2}
-use Rattle.adr_schema.specs.Numbered.{numbered}
+use Rattle.adr_values.specs.Table.{Attribute, kind_at, is_forward}
+use Rattle.adr_values.specs.Schemas.{schema_1, schema_2}
+use Rattle.adr_values.specs.Numbered.{numbered}
 use Rattle.adr_model.specs.Member.{Member}
 use Rattle.adr_model.specs.Update.{Key, RowOf, LinkOf, Update}
 use Rattle.adr_model.specs.Formed.{AreFormedRows}

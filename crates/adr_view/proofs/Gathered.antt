@@ -8,7 +8,7 @@ use Rattle.std.specs.declared.cmp.Ordering.{Ordering}
 use Rattle.std.specs.declared.cmp.Ordering.TheVariants.{Less, Equal, Greater}
 use Rattle.std.proofs.lemmas.Cmp.{nat_cmp_total, nat_list_cmp_total}
 use Rattle.std.proofs.lemmas.Map.Lookups.{CmpEqualImpliesEq, exact_bytes, exact_unsigned}
-use Rattle.adr_stamp.specs.Order.{identifier_order}
+use Rattle.adr_values.specs.Order.{identifier_order}
 use Rattle.adr_model.specs.Update.{Identifier}
 use Rattle.adr_model.specs.Directory.{gathered, of_attribute}
 

@@ -1,8 +1,8 @@
 -- One step of a loop over rows, of which each adds what it gives.
 use Rattle.std.proofs.Common.{◌≡◌, ◌<◌, ℕ, suc, List, [], ◌∷◌, ◌++◌, Bool, true, false, ◌&&◌, Option, Some, None, refl, sym, ap, ◌∙◌, subst, append_assoc, drop, length, get_or, Bor}
 use Rattle.std.specs.List.{flat_map, cons_option}
-use Rattle.adr_stamp.specs.declared.Oid.{Oid}
-use Rattle.adr_schema.specs.declared.content.Value.{Value as Item}
+use Rattle.adr_values.specs.declared.stamp.Oid.{Oid}
+use Rattle.adr_values.specs.declared.content.Value.{Value as Item}
 use Rattle.adr_model.specs.Directory.{values_at, values_in}
 use Rattle.adr_model.specs.Store.{Held, updates_of}
 use Rattle.adr_update.specs.Referents.{referents}

@@ -11,9 +11,9 @@ use Rattle.std.specs.declared.cmp.Ordering.TheVariants.{Less, Equal, Greater}
 use Rattle.std.proofs.lemmas.Cmp.{nat_list_cmp_total, on_total, then_total}
 use Rattle.std.proofs.lemmas.Map.Lookups.{CmpEqualImpliesEq, exact_bytes, exact_pairs}
 use Rattle.std.proofs.lemmas.Map.Text.{is_eq-slice_cmp}
-use Rattle.adr_stamp.specs.Order.{identifier_order, link_stamp_order}
-use Rattle.adr_stamp.specs.contracts.LinkStampOrd.TheImpl.Laws.{total-law as stamps_total}
-use Rattle.adr_schema.specs.Folding.{folded}
+use Rattle.adr_values.specs.Order.{identifier_order, link_stamp_order}
+use Rattle.adr_values.specs.contracts.stamp.LinkStampOrd.TheImpl.Laws.{total-law as stamps_total}
+use Rattle.adr_values.specs.Folding.{folded}
 use Rattle.adr_model.specs.Place.{Node, place}
 use Rattle.adr_model.specs.Shown.{gives_way}
 use Rattle.adr_model.proofs.Keys.{equal_order}

@@ -1,7 +1,7 @@
 -- What the links from an object and those to it show, where their other ends are live.
 use Rattle.std.specs.Prelude.{ℕ, List, [], Bool, true, false}
 use Rattle.std.specs.Option.{option_map_or}
-use Rattle.adr_stamp.specs.declared.Oid.{Oid}
+use Rattle.adr_values.specs.declared.stamp.Oid.{Oid}
 use Rattle.adr_model.specs.Update.{Identifier, Key, RowOf, LinkOf, Said, Holds, IsPresent, same_object}
 use Rattle.adr_model.specs.Place.{Node, node_at}
 use Rattle.adr_model.specs.Directory.{back_link, one_where}

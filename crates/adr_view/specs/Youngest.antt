@@ -3,9 +3,9 @@ use Rattle.std.specs.Prelude.{◌≡◌, List, Bool, ◌&&◌, Option, Some, Non
 use Rattle.std.specs.BTreeMap.{BTreeMap, get}
 use Rattle.std.specs.Ordering.{is_lt, ordering_then}
 use Rattle.std.specs.Str.{bytes_eq}
-use Rattle.adr_stamp.specs.declared.LinkStamp.{LinkStamp}
-use Rattle.adr_stamp.specs.Order.{link_stamp_order, identifier_order}
-use Rattle.adr_schema.specs.Folding.{folded}
+use Rattle.adr_values.specs.declared.stamp.LinkStamp.{LinkStamp}
+use Rattle.adr_values.specs.Order.{link_stamp_order, identifier_order}
+use Rattle.adr_values.specs.Folding.{folded}
 use Rattle.adr_model.specs.Update.{Identifier, same_identifier}
 use Rattle.adr_model.specs.Place.{Node, place}
 use Rattle.adr_view.specs.Slots.{Slot, slot_order}

@@ -3,14 +3,12 @@
 ghost use Rattle.std.specs.Prelude.{◌≡◌, Bool};
 ghost use Rattle.std.specs.Cmp.Lexicographic.{pointwise};
 ghost use Rattle.std.specs.Str.{bytes_eq};
-ghost use Rattle.adr_schema.specs.Values.{same_value};
+ghost use Rattle.adr_values.specs.Values.{same_value};
 ghost use Rattle.adr_model.specs.Rings.{same_cursor, same_entry, same_links, same_values};
 
 use adr_call::{Directory, Entry, Guids};
 use adr_checks::is_same_value;
-use adr_guid::Guid;
-use adr_schema::{Text, Value, Values};
-use adr_vector::Vector;
+use adr_values::{Guid, Text, Value, Values, Vector};
 
 /// What two lists are compared by.
 trait Compared {

@@ -19,7 +19,7 @@ mod values;
 
 pub use adr_call::{Directory, Report};
 pub use adr_state::Rows;
-pub use adr_vector::NoMemory;
+pub use adr_values::NoMemory;
 pub use comparing::{same_directory, same_vector};
 pub use entries::directory;
 pub use laws::formed_rows_have_back_links;

@@ -4,7 +4,7 @@ ghost use Rattle.std.specs.Prelude.{◌≡◌, ◌++◌, [], ℕ, true, IfOk, On
 ghost use Rattle.std.specs.List.{filter_map, flat_map};
 ghost use Rattle.std.specs.Ordering.{nat_cmp};
 ghost use Rattle.std.specs.BTreeSet.{insert_key};
-ghost use Rattle.adr_stamp.specs.Order.{identifier_order};
+ghost use Rattle.adr_values.specs.Order.{identifier_order};
 ghost use Rattle.adr_model.specs.Update.{Identifier};
 ghost use Rattle.adr_model.specs.Directory.{one_where, of_attribute, gathered, links_at};
 ghost use Rattle.adr_model.specs.Live.{live_rows};
@@ -17,9 +17,8 @@ ghost use Rattle.adr_view.specs.Named.{AreNamed};
 
 use crate::NoMemory;
 use adr_call::{EntryLinks, Guids};
-use adr_guid::Guid;
-use adr_stamp::Oid;
 use adr_state::{Held, Key, Rows, Said, Update, is_same_object};
+use adr_values::{Guid, Oid};
 use std::alloc::Global;
 use std::collections::BTreeSet;
 

@@ -13,11 +13,9 @@ use crate::NoMemory;
 use crate::names::{Names, youngest_names};
 use crate::shown::shown_name;
 use adr_call::{Life, MetaLine, MetaLines};
-use adr_guid::Guid;
-use adr_schema::{Content, Text};
-use adr_stamp::Oid;
 use adr_state::Rows;
 use adr_update::{CLASS, DELETED, Held, Key, NAME, Said, is_same_object};
+use adr_values::{Content, Guid, Oid, Text};
 use std::alloc::Global;
 
 /// The name of a tombstone: its text, a line feed, `DEL:` and the GUID in lower case (MS-ADTS, deleted objects; RFC 9562

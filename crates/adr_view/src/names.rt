@@ -3,7 +3,7 @@
 ghost use Rattle.std.specs.Prelude.{◌≡◌, Some, false, IfOk, OnOk};
 ghost use Rattle.std.specs.BTreeMap.{get};
 ghost use Rattle.std.specs.Option.{option_copied, option_map_or};
-ghost use Rattle.adr_schema.specs.Folding.{folded};
+ghost use Rattle.adr_values.specs.Folding.{folded};
 ghost use Rattle.adr_model.specs.Store.{updates_of};
 ghost use Rattle.adr_model.specs.Write.{nodes_held};
 ghost use Rattle.adr_update.specs.Referents.{referents};
@@ -12,9 +12,8 @@ ghost use Rattle.adr_view.specs.Youngest.{AreYoungest, is_before, later, rank_of
 
 use crate::NoMemory;
 use crate::slot::Slot;
-use adr_guid::Guid;
-use adr_stamp::LinkStamp;
 use adr_state::{Node, Rows};
+use adr_values::{Guid, LinkStamp};
 use std::alloc::Global;
 use std::collections::BTreeMap;
 

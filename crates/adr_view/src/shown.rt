@@ -8,10 +8,9 @@ ghost use Rattle.adr_view.specs.Youngest.{AreYoungest};
 
 use crate::NoMemory;
 use crate::names::{Names, gives_way};
-use adr_guid::Guid;
-use adr_schema::Text;
 use adr_state::Node;
 use adr_update::is_lost_name;
+use adr_values::{Guid, Text};
 use std::alloc::Global;
 
 /// The name of an object whose text another keeps.

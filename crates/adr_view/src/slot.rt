@@ -5,8 +5,7 @@ ghost use Rattle.std.specs.Cmp.{partial_equiv_from_equiv};
 ghost use Rattle.std.specs.Ordering.{as_partial_cmp};
 ghost use Rattle.adr_view.specs.Slots.{same_slot, slot_order, slots_equivalent, slots_partly, slots_total};
 
-use adr_guid::Guid;
-use adr_schema::Text;
+use adr_values::{Guid, Text};
 use std::cmp::Ordering;
 use std::marker::Model;
 

@@ -10,9 +10,8 @@ ghost use Rattle.adr_view.specs.Ends.{is_live};
 
 use crate::NoMemory;
 use adr_call::EntryValues;
-use adr_schema::{Content, Values};
-use adr_stamp::Oid;
 use adr_state::{Held, Key, Rows, Said, Update, is_same_object};
+use adr_values::{Content, Oid, Values};
 use std::alloc::Global;
 
 /// Adds the attribute and the values that a row of an object gives, where there are any.

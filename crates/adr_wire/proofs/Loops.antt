@@ -1,8 +1,8 @@
 -- Reading elements one after the other, as a loop does.
 use Rattle.std.proofs.Common.{◌≡◌, ℕ, zero, suc, ◌-◌, ◌+◌, ◌≤◌, ◌<◌, List, [], ◌∷◌, ◌++◌, Option, None, Some, Ok, Err, refl, sym, ap, ◌∙◌, append_assoc, arith}
 use Rattle.std.proofs.lemmas.List.{append-nil}
-use Rattle.adr_failure.specs.declared.Failure.{Failure}
-use Rattle.adr_failure.specs.declared.Failure.TheVariants.{Refused, NoMemory}
+use Rattle.adr_values.specs.declared.failure.Failure.{Failure}
+use Rattle.adr_values.specs.declared.failure.Failure.TheVariants.{Refused, NoMemory}
 use Rattle.adr_wire.specs.declared.refusal.Malformed.{Malformed}
 use Rattle.adr_wire.specs.Reading.{Rest, Read, Reading, ◌>>=◌, Refuses, Names, as_at, then_at, gathered_at, elements_at, keyed}
 

@@ -5,9 +5,9 @@ use Rattle.std.specs.Ordering.{is_lt}
 use Rattle.std.specs.declared.cmp.Ordering.{Ordering}
 use Rattle.std.specs.declared.cmp.Ordering.TheVariants.{Less, Equal, Greater}
 use Rattle.std.proofs.lemmas.Bool.{leb-true, le-leb}
-use Rattle.adr_stamp.specs.Order.{identifier_order}
-use Rattle.adr_vector.specs.Vector.{Cursors, IsVector, cursor_limit}
-use Rattle.adr_vector.proofs.Cursors.{IsRising, FromOne, IsBelow, below_all, head_below, tail_rising, cons_rising, nil_rising}
+use Rattle.adr_values.specs.Order.{identifier_order}
+use Rattle.adr_values.specs.Vector.{Cursors, IsVector, cursor_limit}
+use Rattle.adr_values.proofs.Cursors.{IsRising, FromOne, IsBelow, below_all, head_below, tail_rising, cons_rising, nil_rising}
 use Rattle.adr_wire.specs.Reading.{Rest, as_at, where_at, is_above}
 use Rattle.adr_wire.specs.Fields.{u32_at, u64_at, id_at, usn_at, is_usn, u32, u64, id}
 use Rattle.adr_wire.specs.Composites.{cursor_above, cursors_at, vector_at, cursor, vector}

@@ -2,17 +2,17 @@
 use Rattle.std.specs.Prelude.{ℕ, ◌<◌, ◌^◌, List, [], ◌++◌, length, Bool, nat_le, ◌&&◌, if◌then◌else◌, ◌==◌, Option, None, Ok, Err, ⊤, All}
 use Rattle.std.specs.List.{flat_map}
 use Rattle.std.specs.Ordering.{nat_cmp}
-use Rattle.adr_stamp.specs.declared.Oid.{Oid}
-use Rattle.adr_stamp.specs.declared.Stamp.{Stamp}
-use Rattle.adr_stamp.specs.declared.LinkStamp.{LinkStamp}
-use Rattle.adr_stamp.specs.declared.LinkKey.{LinkKey}
-use Rattle.adr_stamp.specs.Order.{identifier_order}
-use Rattle.adr_schema.specs.declared.content.Value.{Value as Item}
-use Rattle.adr_schema.specs.declared.content.Value.TheVariants.{Text, Number, Flag, Octets, Ref}
-use Rattle.adr_schema.specs.declared.content.Content.{Content}
-use Rattle.adr_schema.specs.declared.content.Content.TheVariants.{Class, Name, Dead, Values}
-use Rattle.adr_vector.specs.declared.mark.Mark.{Mark}
-use Rattle.adr_vector.specs.Vector.{Cursors, cursor_limit}
+use Rattle.adr_values.specs.declared.stamp.Oid.{Oid}
+use Rattle.adr_values.specs.declared.stamp.Stamp.{Stamp}
+use Rattle.adr_values.specs.declared.stamp.LinkStamp.{LinkStamp}
+use Rattle.adr_values.specs.declared.stamp.LinkKey.{LinkKey}
+use Rattle.adr_values.specs.Order.{identifier_order}
+use Rattle.adr_values.specs.declared.content.Value.{Value as Item}
+use Rattle.adr_values.specs.declared.content.Value.TheVariants.{Text, Number, Flag, Octets, Ref}
+use Rattle.adr_values.specs.declared.content.Content.{Content}
+use Rattle.adr_values.specs.declared.content.Content.TheVariants.{Class, Name, Dead, Values}
+use Rattle.adr_values.specs.declared.mark.Mark.{Mark}
+use Rattle.adr_values.specs.Vector.{Cursors, cursor_limit}
 use Rattle.adr_wire.specs.Reading.{Reading, ◌>>=◌, as_at, passing_at, where_at, then_at, elements_at, is_above, above_at}
 use Rattle.adr_wire.specs.Fields.{u8_at, u16_at, u32_at, u64_at, i64_at, id_at, flag_at, usn_at, usn0_at, version_at, text_at, octets_at, u8, u16, u32, u64, i64, id, flag, text, octets}
 

@@ -1,6 +1,6 @@
 -- Pieces of messages and of journal records: an object with its rows, or a link, behind the kind that says which.
 use Rattle.std.specs.Prelude.{ℕ, List, ◌++◌, ◌==◌, if◌then◌else◌, Err}
-use Rattle.adr_stamp.specs.declared.Oid.{Oid}
+use Rattle.adr_values.specs.declared.stamp.Oid.{Oid}
 use Rattle.adr_wire.specs.Reading.{Reading, ◌>>=◌, as_at}
 use Rattle.adr_wire.specs.Fields.{u8_at, u8}
 use Rattle.adr_wire.specs.Composites.{Row, LinkItem, object_at, object, link_at, link}

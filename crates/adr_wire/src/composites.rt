@@ -5,10 +5,9 @@ ghost use Rattle.adr_wire.specs.Composites.{mark_at, ordered_mark_at, oid_at, st
 
 use crate::reader::Reader;
 use crate::refusal::{Malformed, WireRefusal};
-use adr_failure::Failure;
-use adr_schema::{Content, Value};
-use adr_stamp::{Birth, LinkKey, LinkStamp, Oid, Stamp};
-use adr_vector::{CURSOR_LIMIT, Mark, Vector};
+use adr_values::{
+    Birth, CURSOR_LIMIT, Content, Failure, LinkKey, LinkStamp, Mark, Oid, Stamp, Value, Vector,
+};
 use std::alloc::Global;
 
 impl Reader<'_> {

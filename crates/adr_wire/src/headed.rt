@@ -7,7 +7,7 @@ ghost use Rattle.adr_wire.specs.Reading.{Tells};
 use crate::reader::Reader;
 use crate::refusal::{DecodeRefusal, Malformed, WireRefusal};
 use crate::writer::Writer;
-use adr_failure::{Failure, NoMemory};
+use adr_values::{Failure, NoMemory};
 
 impl Reader<'_> {
     /// The version of a message, behind its magic. Other first bytes are refused at the first of them.

@@ -5,10 +5,7 @@ ghost use Rattle.adr_wire.specs.Composites.{values_at, row_above, row_after, row
 
 use crate::reader::Reader;
 use crate::refusal::{Malformed, WireRefusal};
-use adr_failure::Failure;
-use adr_guid::Guid;
-use adr_schema::{Content, Values};
-use adr_stamp::Stamp;
+use adr_values::{Content, Failure, Guid, Stamp, Values};
 use std::alloc::Global;
 
 impl Reader<'_> {

@@ -6,9 +6,7 @@ ghost use Rattle.adr_wire.specs.Reading.{Gives, Tells, TellsAs, bytes_at};
 ghost use Rattle.adr_wire.specs.Fields.{u8_at, u16_at, u32_at, u64_at, i64_at, id_at, flag_at, usn_at, usn0_at, version_at, text_at, octets_at, magic_at, format_version_at};
 
 use crate::refusal::{Malformed, WireRefusal};
-use adr_failure::Failure;
-use adr_guid::Guid;
-use adr_schema::{Octets, Text};
+use adr_values::{Failure, Guid, Octets, Text};
 use std::alloc::Global;
 use std::marker::Model;
 

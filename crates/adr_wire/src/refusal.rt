@@ -1,6 +1,6 @@
 //! Why bytes could not be read.
 
-use adr_failure::Failure;
+use adr_values::Failure;
 use thiserror::Error;
 
 /// The bytes are not the spelling of what is read. `place` counts bytes from 0: it is the first byte of the first

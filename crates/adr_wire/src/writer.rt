@@ -4,9 +4,7 @@ ghost use Rattle.std.specs.Prelude.{◌≡◌, ◌++◌, [], IfOk, OnOk, OnErr};
 ghost use Rattle.adr_wire.specs.Fields.{u8, u16, u32, u64, i64, id, flag, text, octets};
 ghost use Rattle.adr_wire.specs.Composites.{IsShort};
 
-use adr_failure::NoMemory;
-use adr_guid::Guid;
-use adr_schema::{Octets, Text};
+use adr_values::{Guid, NoMemory, Octets, Text};
 use std::alloc::Global;
 use std::marker::Model;
 

@@ -7,11 +7,7 @@ ghost use Rattle.adr_wire.specs.Composites.{IsShortValue, IsShortContent};
 ghost use Rattle.adr_wire.specs.Composites as spelled;
 
 use crate::writer::Writer;
-use adr_failure::NoMemory;
-use adr_guid::Guid;
-use adr_schema::{Content, Value};
-use adr_stamp::{LinkKey, LinkStamp, Oid, Stamp};
-use adr_vector::{Mark, Vector};
+use adr_values::{Content, Guid, LinkKey, LinkStamp, Mark, NoMemory, Oid, Stamp, Value, Vector};
 
 /// The kind of a value, which says how it is read again.
 fn kind_of(value: &Value) -> u8

@@ -6,10 +6,8 @@ ghost use Rattle.adr_token.specs.Identifiers.{identifier_of};
 ghost use Rattle.adr_words.specs.Asked.{given, is_one_word, number_given, within};
 ghost use Rattle.adr_words.specs.Commands.{COUNT, DSA, N, NAME, PORT, name_of, number_within};
 
-use adr_failure::{Failure, NoMemory};
-use adr_guid::Guid;
-use adr_schema::Text;
 use adr_token::Line;
+use adr_values::{Failure, Guid, NoMemory, Text};
 use clap::ArgMatches;
 use std::alloc::{AllocError, Global};
 

@@ -8,7 +8,7 @@ ghost use Rattle.adr_words.specs.Commands.{COUNT, DSA, NAME, PORT};
 use crate::arguments::{count, dsa, name, number, port};
 use crate::kinds::Command;
 use crate::kinds::DiskCommand::{self, Backup, Create, Export, Install, Show};
-use adr_failure::NoMemory;
+use adr_values::NoMemory;
 use clap::ArgMatches;
 use std::alloc::Global;
 

@@ -1,7 +1,6 @@
 //! The commands.
 
-use adr_guid::Guid;
-use adr_schema::Text;
+use adr_values::{Guid, Text};
 
 /// A command over the disk of a name. A name is a letter, and then at most 31 letters, digits or `_`.
 #[derive(Drop)]

@@ -5,7 +5,7 @@ ghost use Rattle.clap.specs.Words.{app_of, shape_of};
 ghost use Rattle.clap.specs.declared.builder.command.Command.TheViews.{out-Command};
 ghost use Rattle.adr_words.specs.Parser.{bare, leaf, parser, with_leaf, with_leaves};
 
-use adr_failure::NoMemory;
+use adr_values::NoMemory;
 use clap::{Arg, Command};
 use std::alloc::Global;
 

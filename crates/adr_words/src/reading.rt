@@ -8,7 +8,7 @@ ghost use Rattle.adr_words.specs.Commands.{command_of};
 use crate::asked::asked;
 use crate::kinds::Command;
 use crate::parser::parser;
-use adr_failure::NoMemory;
+use adr_values::NoMemory;
 use clap::error::ErrorKind;
 use std::alloc::{AllocError, Global};
 

@@ -3,10 +3,10 @@ use Rattle.caseless.proofs.Computing.{caseless}
 use Rattle.std.specs.Str.{chars}
 use lib.Utf8.{encode}
 use Rattle.uuid.proofs.OnLiterals.{uuid_on_literals}
-use Rattle.adr_schema.specs.Schemas.{schema_1}
-use Rattle.adr_schema.specs.Names.{name_fault}
-use Rattle.adr_schema.specs.Values.{bad_place}
-use Rattle.adr_schema.specs.Rules.{add_refusal, modify_refusal, link_refusal, row_refusal}
+use Rattle.adr_values.specs.Schemas.{schema_1}
+use Rattle.adr_values.specs.Names.{name_fault}
+use Rattle.adr_values.specs.Values.{bad_place}
+use Rattle.adr_values.specs.Rules.{add_refusal, modify_refusal, link_refusal, row_refusal}
 use Rattle.adr_test_definitions.proofs.small_pulls.Goals as goal
 
 pub returns : goal.returns

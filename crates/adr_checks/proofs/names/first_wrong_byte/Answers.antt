@@ -1,5 +1,5 @@
 use Rattle.std.proofs.Common.{◌≡◌, false, length, ◌∙◌}
-use Rattle.adr_schema.specs.Names.{is_wrong_byte}
+use Rattle.adr_values.specs.Names.{is_wrong_byte}
 use Rattle.adr_checks.proofs.Finds.{find-range_with_len_more}
 use Rattle.adr_checks.proofs.names.first_wrong_byte.Goals as goal
 

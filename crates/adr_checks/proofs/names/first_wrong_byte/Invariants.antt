@@ -1,7 +1,7 @@
 use Rattle.std.proofs.Common.{◌≡◌, ◌-◌, length}
 use Rattle.std.specs.List.{find, range_with_len}
-use Rattle.adr_schema.specs.Names.{is_wrong_byte}
-use Rattle.adr_schema.specs.Places.{first_place}
+use Rattle.adr_values.specs.Names.{is_wrong_byte}
+use Rattle.adr_values.specs.Places.{first_place}
 use Rattle.adr_checks.proofs.names.first_wrong_byte.Given as goal
 
 -- the first wrong place is among those that are left

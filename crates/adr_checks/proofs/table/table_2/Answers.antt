@@ -1,5 +1,5 @@
 use Rattle.std.proofs.Common.{refl}
-use Rattle.adr_schema.specs.Schemas.{schema_2}
+use Rattle.adr_values.specs.Schemas.{schema_2}
 use Rattle.adr_checks.proofs.table.table_2.Goals as goal
 
 -- the two tables are one, cell by cell

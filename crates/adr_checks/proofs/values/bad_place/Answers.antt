@@ -1,7 +1,7 @@
 use Rattle.std.proofs.Common.{◌≡◌, ℕ, ◌<◌, length, take, Bool, false, ◌||◌, nat_le, ◌∙◌, arith}
 use Rattle.std.specs.List.{slice_get}
 use Rattle.std.proofs.lemmas.Bool.Decides.{nat_tests}
-use Rattle.adr_schema.specs.Values.{is_bad_at, is_misplaced}
+use Rattle.adr_values.specs.Values.{is_bad_at, is_misplaced}
 use Rattle.adr_checks.proofs.Finds.{find-range_with_len_more}
 use Rattle.adr_checks.proofs.values.bad_place.Goals as goal
 

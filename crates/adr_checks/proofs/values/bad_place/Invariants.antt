@@ -1,7 +1,7 @@
 use Rattle.std.proofs.Common.{◌≡◌, ◌-◌, ◌≤◌, length}
 use Rattle.std.specs.List.{find, range_with_len}
-use Rattle.adr_schema.specs.Places.{first_place}
-use Rattle.adr_schema.specs.Values.{is_bad_at}
+use Rattle.adr_values.specs.Places.{first_place}
+use Rattle.adr_values.specs.Values.{is_bad_at}
 use Rattle.adr_checks.proofs.values.bad_place.Given as goal
 
 -- the first bad place is among those that are left, and the places do not pass the limit

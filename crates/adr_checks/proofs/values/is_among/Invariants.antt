@@ -1,6 +1,6 @@
 use Rattle.std.proofs.Common.{◌≡◌, drop}
 use Rattle.std.specs.List.{list_any}
-use Rattle.adr_schema.specs.Values.{same_value}
+use Rattle.adr_values.specs.Values.{same_value}
 use Rattle.adr_checks.proofs.values.is_among.Given as goal
 
 -- one of the values is the same exactly where one of those that are left is

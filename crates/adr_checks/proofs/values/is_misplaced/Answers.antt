@@ -1,7 +1,7 @@
 use Rattle.std.proofs.Common.{◌≡◌, Some, true, false, length, refl, sym, ◌∙◌}
 use Rattle.std.specs.List.{slice_get}
 use Rattle.std.proofs.lemmas.Option.{slice_get_read}
-use Rattle.adr_schema.specs.Values.{fits}
+use Rattle.adr_values.specs.Values.{fits}
 use Rattle.adr_checks.proofs.values.is_misplaced.Goals as goal
 
 pub returns-then-not-fits : goal.returns-then-not-fits

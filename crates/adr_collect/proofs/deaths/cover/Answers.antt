@@ -1,6 +1,6 @@
 use Rattle.std.proofs.Common.{◌≡◌, subst}
 use Rattle.std.specs.Prelude.{OnOk}
-use Rattle.adr_vector.specs.Vector.{raised}
+use Rattle.adr_values.specs.Vector.{raised}
 use Rattle.adr_collect.proofs.deaths.cover.Goals as goal
 
 pub returns-clause-raised : goal.returns-clause-raised

@@ -1,6 +1,6 @@
 use Rattle.std.proofs.Common.{◌≡◌, ◌++◌, map, fold}
-use Rattle.adr_stamp.specs.declared.Oid.{Oid}
-use Rattle.adr_vector.specs.Vector.{Cursors, at, raised}
+use Rattle.adr_values.specs.declared.stamp.Oid.{Oid}
+use Rattle.adr_values.specs.Vector.{Cursors, at, raised}
 use Rattle.adr_model.specs.Reflects.{AtMost}
 use Rattle.adr_model.specs.Update.{Update, inv_of, usn_of}
 use Rattle.adr_model.specs.Collect.{covering, deaths_to_collect}

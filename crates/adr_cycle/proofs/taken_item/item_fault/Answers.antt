@@ -1,6 +1,6 @@
 use Rattle.std.proofs.Common.{ℕ, List, Option, map, sym, ap, ◌∙◌}
 use Rattle.std.specs.Option.{option_or}
-use Rattle.adr_failure.specs.First.{first_of}
+use Rattle.adr_values.specs.First.{first_of}
 use Rattle.adr_model.specs.Update.{Update}
 use Rattle.adr_model.specs.Take.{class_among, object_rows_tested, row_fault}
 use Rattle.adr_overlay.specs.Presence.{defined}

@@ -1,7 +1,7 @@
 use Rattle.std.proofs.Common.{◌<◌, ◌≤◌, Some, Option, ◌∷◌, length, sym, ap, ◌∙◌, subst, unwrap_or, [], arith}
 use Rattle.std.specs.Option.{option_copied}
-use Rattle.adr_failure.specs.First.{first_of}
-use Rattle.adr_vector.specs.Vector.{cursor_limit, joined, raised}
+use Rattle.adr_values.specs.First.{first_of}
+use Rattle.adr_values.specs.Vector.{cursor_limit, joined, raised}
 use Rattle.adr_call.specs.declared.refusal.Table.TheVariants.{Objects, Links, Cursors as CursorTable, Marks}
 use Rattle.adr_call.specs.declared.refusal.TakeRefusal.{TakeRefusal}
 use Rattle.adr_model.specs.Change.{after, with_mark}

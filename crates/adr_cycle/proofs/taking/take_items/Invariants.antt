@@ -1,5 +1,5 @@
 use Rattle.std.proofs.Common.{◌≡◌, ◌+◌, ◌≤◌, fold, take}
-use Rattle.adr_schema.specs.Numbered.{numbered}
+use Rattle.adr_values.specs.Numbered.{numbered}
 use Rattle.adr_model.specs.Take.{begin, take_item}
 use Rattle.adr_cycle.proofs.taking.take_items.Given as goal
 

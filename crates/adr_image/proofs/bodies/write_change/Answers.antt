@@ -1,7 +1,7 @@
 use Rattle.std.proofs.Common.{◌≡◌, ℕ, Bool, List, Option, ◌++◌, length, ap, ◌∙◌}
 use Rattle.std.specs.List.{flat_map}
-use Rattle.adr_stamp.specs.declared.Oid.{Oid}
-use Rattle.adr_vector.specs.Vector.{Cursors}
+use Rattle.adr_values.specs.declared.stamp.Oid.{Oid}
+use Rattle.adr_values.specs.Vector.{Cursors}
 use Rattle.adr_wire.specs.Composites.{oid, vector}
 use Rattle.adr_wire.specs.Fields.{flag, u32, u64}
 use Rattle.adr_model.specs.Change.{Written}

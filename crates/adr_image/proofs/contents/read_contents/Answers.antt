@@ -1,5 +1,5 @@
 use Rattle.std.proofs.Common.{List, [], sym, ap, ◌∙◌}
-use Rattle.adr_schema.specs.Table.{Table}
+use Rattle.adr_values.specs.Table.{Table}
 use Rattle.adr_model.specs.Store.{Held, Store}
 use Rattle.adr_image.specs.Whole.{parts_of}
 use Rattle.adr_image.proofs.WholeLaws.{tail_at}

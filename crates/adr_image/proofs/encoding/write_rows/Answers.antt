@@ -2,7 +2,7 @@ use Rattle.std.proofs.Common.{ℕ, List, ◌++◌, ap, arith, drop, length, sym,
 use Rattle.std.specs.Prelude.{All}
 use Rattle.std.specs.List.{flat_map}
 use Rattle.std.proofs.lemmas.List.Elements.{All-drop}
-use Rattle.adr_stamp.specs.declared.Oid.{Oid}
+use Rattle.adr_values.specs.declared.stamp.Oid.{Oid}
 use Rattle.adr_wire.specs.Fields.{u32}
 use Rattle.adr_model.specs.Store.{Held}
 use Rattle.adr_update.specs.Referents.{referents}

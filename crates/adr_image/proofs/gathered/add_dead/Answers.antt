@@ -1,6 +1,6 @@
 use Rattle.std.proofs.Common.{Bool, List, sym, ap, ◌∙◌}
 use Rattle.std.specs.Prelude.{◌&&◌, ◌||◌}
-use Rattle.adr_stamp.specs.declared.Oid.{Oid}
+use Rattle.adr_values.specs.declared.stamp.Oid.{Oid}
 use Rattle.adr_model.specs.Live.{is_among}
 use Rattle.adr_model.specs.Update.{same_object}
 use Rattle.adr_image.proofs.Keeping.{one_dead}

@@ -2,8 +2,8 @@ use Rattle.std.proofs.Common.{◌≡◌, ◌≤◌, ◌<◌, ℕ, ◌+◌, ◌++
 use Rattle.adr_wire.specs.Fields.{u32_at}
 use Rattle.adr_wire.specs.Reading.{Names}
 use Rattle.adr_wire.specs.declared.refusal.Malformed.{Malformed}
-use Rattle.adr_failure.specs.declared.Failure.{Failure}
-use Rattle.adr_failure.specs.declared.Failure.TheVariants.{Refused, NoMemory}
+use Rattle.adr_values.specs.declared.failure.Failure.{Failure}
+use Rattle.adr_values.specs.declared.failure.Failure.TheVariants.{Refused, NoMemory}
 use Rattle.adr_law_journal.specs.Log.{body_at, with_length}
 use Rattle.adr_law_journal.proofs.Replays.{no_length, length_read, no_room, body_read}
 use Rattle.adr_journal.proofs.replaying.body_of.Goals as goal

@@ -2,7 +2,7 @@ use Rattle.std.proofs.Common.{refl}
 use Rattle.std.specs.Fmt.{digits}
 use Rattle.json.specs.Print.{escape_byte}
 use Rattle.uuid.specs.Text.{by_index}
-use Rattle.adr_schema.specs.Schemas.{schema_1}
+use Rattle.adr_values.specs.Schemas.{schema_1}
 use Rattle.adr_token.specs.Spelling.{attribute_token, class_token}
 use Rattle.adr_json.specs.Text.{entry_json, json_text}
 use Rattle.adr_json.proofs.laws.worked_directories.Goals as goal

@@ -1,5 +1,5 @@
 use Rattle.std.proofs.Common.{arith}
-use Rattle.adr_vector.proofs.Comparing.{everywhere_from_at_most, at_most_from_everywhere}
+use Rattle.adr_values.proofs.Comparing.{everywhere_from_at_most, at_most_from_everywhere}
 use Rattle.adr_law_knowledge.proofs.Knows.{covers_up}
 use Rattle.adr_law_knowledge.proofs.View.{covered_where_tested, tested_where_covered}
 use Rattle.adr_law_knowledge.proofs.vectors.vectors_are_compared.Goals as goal

@@ -1,5 +1,5 @@
 use Rattle.std.proofs.Common.{arith}
-use Rattle.adr_vector.proofs.Joining.{raised_here, raised_elsewhere, at-raised, at-joined}
+use Rattle.adr_values.proofs.Joining.{raised_here, raised_elsewhere, at-raised, at-joined}
 use Rattle.adr_law_knowledge.proofs.vectors.vectors_grow.Goals as goal
 
 pub returns-clause-raised_here : goal.returns-clause-raised_here

@@ -1,5 +1,5 @@
 use Rattle.std.proofs.Common.{◌≡◌, sym, ap, ◌∙◌, arith}
-use Rattle.adr_stamp.specs.declared.Oid.{Oid}
+use Rattle.adr_values.specs.declared.stamp.Oid.{Oid}
 use Rattle.adr_model.specs.Store.{row_held}
 use Rattle.adr_model.specs.Update.{RowOf, deleted_attr}
 use Rattle.adr_model.specs.Write.{version_of, version_limit}

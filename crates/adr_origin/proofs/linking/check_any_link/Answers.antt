@@ -1,6 +1,6 @@
 use Rattle.std.proofs.Common.{sym, ap, ◌∙◌}
 use Rattle.std.proofs.lemmas.Result.{err_from_is_err_and}
-use Rattle.adr_stamp.specs.declared.LinkKey.{LinkKey}
+use Rattle.adr_values.specs.declared.stamp.LinkKey.{LinkKey}
 use Rattle.adr_model.specs.Store.{Mode}
 use Rattle.adr_origin.specs.LinkParts.{start_refusal, write_refusal}
 use Rattle.adr_origin.proofs.FirstOf.{first_of_three, second_of_three, third_of_three}

@@ -2,8 +2,8 @@ use Rattle.std.proofs.Common.{rules, ◌≡◌, sym, ◌∙◌}
 use Rattle.std.proofs.lemmas.Result.{err_from_is_err_and}
 use Rattle.std.specs.Option.{option_map}
 use Rattle.std.specs.Result.{result_err}
-use Rattle.adr_schema.specs.Numbered.{numbered}
-use Rattle.adr_schema.specs.Rules.{modify_refusal}
+use Rattle.adr_values.specs.Numbered.{numbered}
+use Rattle.adr_values.specs.Rules.{modify_refusal}
 use Rattle.adr_call.specs.declared.refusal.WriteRefusal.TheVariants.{Schema as BreaksSchema}
 use Rattle.adr_model.specs.Store.{updates_of}
 use Rattle.adr_model.specs.Write.{class_of, live_refusals, nodes_held}

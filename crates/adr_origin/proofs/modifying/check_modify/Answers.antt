@@ -1,6 +1,6 @@
 use Rattle.std.proofs.Common.{sym, ap, ◌∙◌}
 use Rattle.std.proofs.lemmas.Result.{err_from_is_err_and}
-use Rattle.adr_stamp.specs.declared.Oid.{Oid}
+use Rattle.adr_values.specs.declared.stamp.Oid.{Oid}
 use Rattle.adr_origin.specs.LiveParts.{rows_refusal}
 use Rattle.adr_origin.proofs.InLiveParts.{first_told, modify_in_parts, second_told}
 use Rattle.adr_origin.proofs.modifying.check_modify.Goals as goal

@@ -1,5 +1,5 @@
 use Rattle.std.proofs.Common.{sym, ap, ◌∙◌}
-use Rattle.adr_schema.specs.Table.{Table, is_superior}
+use Rattle.adr_values.specs.Table.{Table, is_superior}
 use Rattle.adr_model.specs.Store.{updates_of}
 use Rattle.adr_model.specs.Write.{class_of_place, nodes_held}
 use Rattle.adr_origin.proofs.Superiors.{other_than_lost}

@@ -2,7 +2,7 @@ use Rattle.std.proofs.Common.{rules, ◌≡◌, sym, ◌∙◌}
 use Rattle.std.proofs.lemmas.Result.{err_from_is_err_and}
 use Rattle.std.specs.Option.{option_map}
 use Rattle.std.specs.Result.{result_err}
-use Rattle.adr_schema.specs.Rules.{name_refusal}
+use Rattle.adr_values.specs.Rules.{name_refusal}
 use Rattle.adr_call.specs.declared.refusal.WriteRefusal.TheVariants.{Schema as BreaksSchema}
 use Rattle.adr_model.specs.Write.{live_refusals}
 use Rattle.adr_origin.proofs.FirstOf.{in_front}

@@ -1,6 +1,6 @@
 use Rattle.std.proofs.Common.{◌≡◌, ◌≤◌, take, filter, length}
 use Rattle.std.specs.Prelude.{◌==◌}
-use Rattle.adr_vector.specs.Vector.{at}
+use Rattle.adr_values.specs.Vector.{at}
 use Rattle.adr_overlay.proofs.cursors.count_new.Given as goal
 
 -- the new ones so far are counted

@@ -1,5 +1,5 @@
 use Rattle.std.proofs.Common.{length, max, ap, ap₂, ◌∙◌, arith}
-use Rattle.adr_vector.specs.Vector.{Cursors}
+use Rattle.adr_values.specs.Vector.{Cursors}
 use Rattle.adr_overlay.specs.Cursors.{new_at}
 use Rattle.adr_overlay.proofs.Lengths.{raised_length, length_after}
 use Rattle.adr_overlay.proofs.cursors.len_after.Goals as goal

@@ -1,5 +1,5 @@
 use Rattle.std.proofs.Common.{length, ap, arith}
-use Rattle.adr_vector.specs.Vector.{Cursors}
+use Rattle.adr_values.specs.Vector.{Cursors}
 use Rattle.adr_overlay.proofs.Lengths.{joined_length, new_among}
 use Rattle.adr_overlay.proofs.cursors.len_joined.Goals as goal
 

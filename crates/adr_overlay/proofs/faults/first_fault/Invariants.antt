@@ -1,6 +1,6 @@
 use Rattle.std.proofs.Common.{◌≡◌, drop, filter, map}
 use Rattle.std.specs.Prelude.{if◌then◌else◌}
-use Rattle.adr_failure.specs.First.{first_of}
+use Rattle.adr_values.specs.First.{first_of}
 use Rattle.adr_model.specs.Take.{is_reserved_row, row_fault}
 use Rattle.adr_overlay.proofs.faults.first_fault.Given as goal
 

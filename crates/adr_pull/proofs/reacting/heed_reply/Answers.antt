@@ -1,7 +1,7 @@
 use Rattle.std.proofs.Common.{Result, sym, ap, subst}
 use Rattle.std.specs.Option.{option_map}
 use Rattle.adr_wire.specs.declared.refusal.DecodeRefusal.{DecodeRefusal}
-use Rattle.adr_failure.specs.declared.Failure.{Failure}
+use Rattle.adr_values.specs.declared.failure.Failure.{Failure}
 use Rattle.adr_wire.specs.Headed.{IsRefusedSo}
 use Rattle.adr_disk.specs.Disk.{LeavesOnly}
 use Rattle.std.specs.Prelude.{IfSome}

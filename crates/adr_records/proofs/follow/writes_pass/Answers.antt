@@ -1,8 +1,8 @@
 use Rattle.std.proofs.Common.{◌≡◌, List, [], Bool, true, ◌&&◌, fold, sym, ap, ap₂, ◌∙◌}
 use Rattle.std.proofs.lemmas.Result.{IfOk-weaker}
-use Rattle.adr_schema.specs.Numbered.{numbered}
-use Rattle.adr_schema.specs.Table.{Table}
-use Rattle.adr_vector.specs.Vector.{Cursors, joined}
+use Rattle.adr_values.specs.Numbered.{numbered}
+use Rattle.adr_values.specs.Table.{Table}
+use Rattle.adr_values.specs.Vector.{Cursors, joined}
 use Rattle.adr_model.specs.Store.{Held}
 use Rattle.adr_model.specs.Change.{Written, after, held_of, rows_after, without_object}
 use Rattle.adr_law_formed.specs.Tested.{are_removable, are_touched_formed, may_follow_in_turn}

@@ -1,5 +1,5 @@
 use Rattle.std.proofs.Common.{◌<◌, ◌∙◌, Err, ap, arith, length, sym, ⊎_elim}
-use Rattle.adr_vector.specs.Vector.{cursor_limit}
+use Rattle.adr_values.specs.Vector.{cursor_limit}
 use Rattle.adr_model.specs.Change.{after}
 use Rattle.adr_records.specs.BodyLaws.{change_follows}
 use Rattle.adr_records.proofs.following.apply_read.Goals as goal

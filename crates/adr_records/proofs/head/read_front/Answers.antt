@@ -1,5 +1,5 @@
 use Rattle.std.proofs.Common.{◌∙◌, drop, subst, sym}
-use Rattle.adr_failure.specs.declared.Failure.{Failure}
+use Rattle.adr_values.specs.declared.failure.Failure.{Failure}
 use Rattle.adr_wire.specs.declared.refusal.Malformed.{Malformed}
 use Rattle.adr_wire.specs.Reading.{Refuses, Rest, TellsAs}
 use Rattle.adr_wire.proofs.Combining.{from}

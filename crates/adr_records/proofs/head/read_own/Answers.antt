@@ -1,10 +1,10 @@
 use Rattle.std.proofs.Common.{◌+◌, ◌∙◌, ap, drop, subst, sym}
 use Rattle.std.proofs.lemmas.Result.{err_from_is_err_and}
-use Rattle.adr_failure.specs.declared.Failure.{Failure}
+use Rattle.adr_values.specs.declared.failure.Failure.{Failure}
 use Rattle.adr_wire.specs.declared.refusal.Malformed.{Malformed}
 use Rattle.adr_wire.specs.Reading.{Refuses}
 use Rattle.adr_wire.proofs.Combining.{from}
-use Rattle.adr_vector.specs.Vector.{at}
+use Rattle.adr_values.specs.Vector.{at}
 use Rattle.adr_model.specs.Store.{Store}
 use Rattle.adr_records.specs.Head.{own_image_at}
 use Rattle.adr_records.proofs.Heads.{own_differs, own_read, own_refused}

@@ -1,8 +1,8 @@
 use Rattle.std.proofs.Common.{◌≡◌, ◌+◌, ◌∷◌, List, sym, ap, ◌∙◌, drop, fold, get_or}
 use Rattle.std.specs.BTreeSet.{insert_key}
 use Rattle.std.proofs.lemmas.List.{drop_more}
-use Rattle.adr_stamp.specs.Order.{object_order}
-use Rattle.adr_stamp.specs.declared.Oid.{Oid}
+use Rattle.adr_values.specs.Order.{object_order}
+use Rattle.adr_values.specs.declared.stamp.Oid.{Oid}
 use Rattle.adr_records.proofs.removed.set_of.Goals as goal
 
 pub loop-object-preserved : goal.loop-object-preserved

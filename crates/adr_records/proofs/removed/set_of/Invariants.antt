@@ -1,6 +1,6 @@
 use Rattle.std.proofs.Common.{◌≡◌, [], fold, drop}
 use Rattle.std.specs.BTreeSet.{insert_key}
-use Rattle.adr_stamp.specs.Order.{object_order}
+use Rattle.adr_values.specs.Order.{object_order}
 use Rattle.adr_records.proofs.removed.set_of.Given as goal
 
 -- with the objects that are left it is the set of all

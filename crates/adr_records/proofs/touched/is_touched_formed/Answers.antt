@@ -1,7 +1,7 @@
 use Rattle.std.proofs.Common.{◌≡◌, ◌||◌, true, false, sym, ap, ◌∙◌, fold}
 use Rattle.std.specs.Prelude.{is_none}
 use Rattle.std.proofs.lemmas.Result.{IfOk-weaker}
-use Rattle.adr_schema.specs.Table.{is_forward, kind_at}
+use Rattle.adr_values.specs.Table.{is_forward, kind_at}
 use Rattle.adr_model.specs.Change.{without_object}
 use Rattle.adr_model.specs.Live.{is_among}
 use Rattle.adr_model.specs.Store.{holds_object, row_held}

@@ -1,5 +1,5 @@
 use Rattle.std.proofs.Common.{◌≡◌, true, take}
-use Rattle.adr_vector.specs.Vector.{at_most}
+use Rattle.adr_values.specs.Vector.{at_most}
 use Rattle.adr_model.specs.Change.{after}
 use Rattle.adr_records.proofs.vectors.is_purged_within.Given as goal
 

@@ -1,6 +1,6 @@
 use Rattle.std.proofs.Common.{◌∙◌, ap, refl, sym, subst, ◌∷◌, Option, Some, None, Ok, Err}
 use Rattle.std.proofs.lemmas.Result.{err_from_is_err_and}
-use Rattle.adr_failure.specs.declared.Failure.{Failure}
+use Rattle.adr_values.specs.declared.failure.Failure.{Failure}
 use Rattle.adr_wire.specs.declared.refusal.DecodeRefusal.{DecodeRefusal}
 use Rattle.adr_wire.specs.Headed.{IsRefusedSo}
 use Rattle.adr_packet.specs.Requests.{decoded_request}

@@ -1,8 +1,8 @@
 use Rattle.std.proofs.Common.{◌||◌}
 use Rattle.std.specs.Prelude.{nat_eq, nat_lt}
-use Rattle.adr_vector.specs.Vector.{at}
-use Rattle.adr_vector.specs.Known.{has_cursors_of}
-use Rattle.adr_vector.proofs.Comparing.{both_true}
+use Rattle.adr_values.specs.Vector.{at}
+use Rattle.adr_values.specs.Known.{has_cursors_of}
+use Rattle.adr_values.proofs.Comparing.{both_true}
 use Rattle.adr_state.proofs.Known.{own_there}
 use Rattle.adr_state.proofs.state.raise_cursors.Goals as goal
 

@@ -6,7 +6,7 @@ use Rattle.std.specs.Map.Iter.{deref}
 use Rattle.std.proofs.lemmas.Map.Iter.{rest_more}
 use Rattle.adr_model.specs.Update.{LinkOf, same_object}
 use Rattle.adr_model.specs.Store.{Held}
-use Rattle.adr_stamp.specs.declared.LinkKey.{LinkKey}
+use Rattle.adr_values.specs.declared.stamp.LinkKey.{LinkKey}
 use Rattle.adr_table.specs.declared.back.Behind.{Behind}
 use Rattle.adr_table.specs.Place.{place_of}
 use Rattle.adr_table.specs.Slots.{row_at}

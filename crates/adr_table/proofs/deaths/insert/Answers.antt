@@ -2,7 +2,7 @@ use Rattle.std.proofs.Common.{◌≡◌, ◌∙◌, refl, true}
 use Rattle.std.proofs.lemmas.Bool.{cond_both}
 use Rattle.std.specs.BTreeMap.{is_at}
 use Rattle.std.specs.BTreeSet.{contains}
-use Rattle.adr_stamp.specs.Order.{object_order}
+use Rattle.adr_values.specs.Order.{object_order}
 use Rattle.adr_table.proofs.deaths.insert.Goals as goal
 
 pub returns-clause-more : goal.returns-clause-more

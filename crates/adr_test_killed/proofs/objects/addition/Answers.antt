@@ -1,6 +1,6 @@
 use Rattle.std.proofs.Common.{ap, ◌∙◌, List, ℕ}
 use Rattle.std.proofs.lemmas.Str.{is_utf8-from_IsUtf8}
-use Rattle.adr_schema.specs.Assignments.{Given}
+use Rattle.adr_values.specs.Assignments.{Given}
 use Rattle.adr_call.specs.declared.write.Write.TheVariants.{Add}
 use Rattle.adr_model.specs.Place.{root}
 use Rattle.adr_test_killed.specs.Objects.{guid_of}

@@ -1,5 +1,5 @@
 use Rattle.std.proofs.Common.{◌≡◌, ◌∙◌, [], ◌∷◌, ap, subst, sym}
-use Rattle.adr_schema.specs.Assignments.{placed}
+use Rattle.adr_values.specs.Assignments.{placed}
 use Rattle.adr_model.specs.Given.{AreInOrder}
 use Rattle.adr_test_logs.proofs.Writing.{one_rises}
 use Rattle.adr_test_logs.proofs.written.described.Goals as goal

@@ -1,6 +1,6 @@
 use Rattle.std.proofs.Common.{◌++◌, ap, ◌∙◌, append_assoc}
 use Rattle.std.specs.Prelude.{codes}
-use Rattle.adr_schema.specs.declared.content.Value.{Value}
+use Rattle.adr_values.specs.declared.content.Value.{Value}
 use Rattle.adr_token.specs.Spelling.{value_token}
 use Rattle.adr_token.proofs.Lists.{added}
 use Rattle.adr_token.proofs.values.push_more_values.Goals as goal

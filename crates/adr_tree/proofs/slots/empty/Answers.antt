@@ -2,7 +2,7 @@ use Rattle.std.proofs.Common.{◌≡◌, ◌∙◌, sym, ap, subst, Option, Some
 use Rattle.std.specs.Prelude.{IfNone, IsSome}
 use Rattle.std.specs.Option.{option_copied_mut}
 use Rattle.std.specs.BTreeMap.{get, is_at}
-use Rattle.adr_stamp.specs.Order.{identifier_order}
+use Rattle.adr_values.specs.Order.{identifier_order}
 use Rattle.adr_model.specs.Place.{Node}
 use Rattle.adr_tree.specs.Slots.{AreAtHome, IsTidy, flat, seen, slot_at}
 use Rattle.adr_update.proofs.Slots.{still_some}

@@ -1,8 +1,8 @@
 use Rattle.std.proofs.Common.{sym, ◌∙◌, ap, subst, Some, cond}
 use Rattle.std.specs.Prelude.{IsSome, is_some}
 use Rattle.std.specs.BTreeMap.{btree_map_len, is_at, get}
-use Rattle.adr_stamp.specs.declared.Oid.{Oid}
-use Rattle.adr_stamp.specs.Order.{identifier_order}
+use Rattle.adr_values.specs.declared.stamp.Oid.{Oid}
+use Rattle.adr_values.specs.Order.{identifier_order}
 use Rattle.adr_tree.specs.Slots.{AreAtHome, flat, slot_at}
 use Rattle.adr_update.proofs.Slots.{still_some}
 use Rattle.adr_tree.proofs.Seen.{home_still, flat_either, len_stays}

@@ -1,7 +1,7 @@
 use Rattle.std.proofs.Common.{◌≡◌, ◌∙◌, refl, sym, ap, subst, Bool, false, Option, Some, None}
 use Rattle.std.specs.Prelude.{IsSome, is_some, unwrap_or}
 use Rattle.std.specs.BTreeMap.{get, is_at}
-use Rattle.adr_stamp.specs.Order.{identifier_order}
+use Rattle.adr_values.specs.Order.{identifier_order}
 use Rattle.adr_update.proofs.Slots.{still_some}
 use Rattle.adr_tree.proofs.Seen.{same_flag}
 use Rattle.adr_tree.proofs.slots.reserve_flag.Goals as goal

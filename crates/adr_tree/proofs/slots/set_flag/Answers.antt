@@ -1,7 +1,7 @@
 use Rattle.std.proofs.Common.{sym, subst}
 use Rattle.std.specs.Prelude.{IsSome}
 use Rattle.std.specs.BTreeMap.{is_at}
-use Rattle.adr_stamp.specs.Order.{identifier_order}
+use Rattle.adr_values.specs.Order.{identifier_order}
 use Rattle.adr_update.proofs.Slots.{still_some}
 use Rattle.adr_tree.proofs.slots.set_flag.Goals as goal
 

@@ -3,7 +3,7 @@ use Rattle.std.specs.Prelude.{codes}
 use Rattle.std.specs.Str.{bytes_eq, chars}
 use Rattle.caseless.proofs.Computing.{caseless}
 use lib.Utf8.{encode}
-use Rattle.adr_schema.specs.Folding.{folded}
+use Rattle.adr_values.specs.Folding.{folded}
 use Rattle.adr_update.proofs.fixed.is_lost_text.Goals as goal
 
 folded_lost : codes "lostandfound" ≡ folded (codes "LostAndFound")

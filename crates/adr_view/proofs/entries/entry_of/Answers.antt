@@ -1,5 +1,5 @@
 use Rattle.std.proofs.Common.{◌≡◌, true, sym, subst}
-use Rattle.adr_stamp.specs.declared.Oid.{Oid}
+use Rattle.adr_values.specs.declared.stamp.Oid.{Oid}
 use Rattle.adr_model.specs.Store.{updates_of}
 use Rattle.adr_model.specs.Write.{nodes_held}
 use Rattle.adr_view.specs.Ends.{is_live}

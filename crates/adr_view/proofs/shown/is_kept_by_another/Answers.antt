@@ -3,7 +3,7 @@ use Rattle.std.specs.Prelude.{codes}
 use Rattle.std.specs.BTreeMap.{BTreeMap, get}
 use Rattle.std.specs.Option.{option_map_or}
 use Rattle.std.specs.Str.{bytes_eq}
-use Rattle.adr_schema.specs.Folding.{folded}
+use Rattle.adr_values.specs.Folding.{folded}
 use Rattle.adr_model.specs.Place.{Node, place, root}
 use Rattle.adr_model.specs.Shown.{gives_way, is_lost_name}
 use Rattle.adr_model.specs.Update.{Identifier, same_identifier}

@@ -1,6 +1,6 @@
 use Rattle.std.proofs.Common.{◌≡◌, ℕ, List, ap, ◌∙◌, subst}
 use Rattle.std.specs.Prelude.{IfOk}
-use Rattle.adr_schema.specs.declared.content.Value.{Value}
+use Rattle.adr_values.specs.declared.content.Value.{Value}
 use Rattle.adr_update.specs.Referents.{referents}
 use Rattle.adr_view.proofs.LiveParts.{own_values}
 use Rattle.adr_view.proofs.values.values_at.Goals as goal

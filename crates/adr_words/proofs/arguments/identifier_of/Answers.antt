@@ -1,6 +1,6 @@
 use Rattle.std.proofs.Common.{◌∙◌, ℕ, List, ap, subst, sym}
 use Rattle.std.specs.Prelude.{Result, Err}
-use Rattle.adr_failure.specs.declared.Failure.{Failure}
+use Rattle.adr_values.specs.declared.failure.Failure.{Failure}
 use Rattle.adr_token.specs.declared.stop.Bad.{Bad}
 use Rattle.adr_token.specs.Gives.{Answers}
 use Rattle.adr_token.specs.Identifiers.{identifier_of}

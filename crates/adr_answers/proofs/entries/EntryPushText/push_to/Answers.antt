@@ -1,6 +1,6 @@
 use Rattle.std.proofs.Common.{◌≡◌, ◌++◌, ◌∙◌, List, ℕ, append_assoc, flat_map}
 use Rattle.std.proofs.lemmas.Result.{on_ok_weaker}
-use Rattle.adr_schema.specs.declared.content.Value.{Value as Item}
+use Rattle.adr_values.specs.declared.content.Value.{Value as Item}
 use Rattle.adr_answers.specs.Line.{values_text, links_text, entry_line}
 use Rattle.adr_answers.proofs.entries.EntryPushText.push_to.Goals as goal
 

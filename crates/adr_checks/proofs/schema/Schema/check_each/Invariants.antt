@@ -1,5 +1,5 @@
 use Rattle.std.proofs.Common.{◌≡◌, map}
-use Rattle.adr_schema.specs.Rules.{first_refusal}
+use Rattle.adr_values.specs.Rules.{first_refusal}
 use Rattle.adr_checks.specs.Given.{given_refusal}
 use Rattle.adr_checks.proofs.schema.Schema.check_each.Given as goal
 

@@ -1,6 +1,6 @@
 use Rattle.std.proofs.Common.{◌≡◌, false, slice_index, sym, ap, ◌∙◌}
-use Rattle.adr_schema.specs.Assignments.{given}
-use Rattle.adr_schema.specs.Rules.{is_emptied}
+use Rattle.adr_values.specs.Assignments.{given}
+use Rattle.adr_values.specs.Rules.{is_emptied}
 use Rattle.adr_checks.proofs.Finds.{find-drop_more}
 use Rattle.adr_checks.proofs.schema.Schema.first_emptied.Goals as goal
 

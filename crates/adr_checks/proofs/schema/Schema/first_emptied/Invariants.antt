@@ -1,7 +1,7 @@
 use Rattle.std.proofs.Common.{◌≡◌, drop}
 use Rattle.std.specs.List.{find}
-use Rattle.adr_schema.specs.Assignments.{given}
-use Rattle.adr_schema.specs.Rules.{is_emptied}
+use Rattle.adr_values.specs.Assignments.{given}
+use Rattle.adr_values.specs.Rules.{is_emptied}
 use Rattle.adr_checks.proofs.schema.Schema.first_emptied.Given as goal
 
 -- the first is among those that are left

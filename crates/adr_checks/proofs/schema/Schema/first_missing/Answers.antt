@@ -1,6 +1,6 @@
 use Rattle.std.proofs.Common.{◌≡◌, Bool, true, false, not, is_none, is_some, Option, None, Some, slice_index, Bor, refl, sym, ap, ◌∙◌}
 use Rattle.std.specs.Option.{option_copied}
-use Rattle.adr_schema.specs.Assignments.{given}
+use Rattle.adr_values.specs.Assignments.{given}
 use Rattle.adr_checks.proofs.Finds.{find-drop_more}
 use Rattle.adr_checks.proofs.schema.Schema.first_missing.Goals as goal
 

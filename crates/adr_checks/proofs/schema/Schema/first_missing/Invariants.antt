@@ -1,6 +1,6 @@
 use Rattle.std.proofs.Common.{◌≡◌, drop, is_none}
 use Rattle.std.specs.List.{find}
-use Rattle.adr_schema.specs.Assignments.{given}
+use Rattle.adr_values.specs.Assignments.{given}
 use Rattle.adr_checks.proofs.schema.Schema.first_missing.Given as goal
 
 -- the first is among those that are left

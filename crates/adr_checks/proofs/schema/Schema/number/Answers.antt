@@ -1,5 +1,5 @@
 use Rattle.std.proofs.Common.{sym, ap, ◌∙◌}
-use Rattle.adr_schema.proofs.Numbers.{number-numbered}
+use Rattle.adr_values.proofs.Numbers.{number-numbered}
 use Rattle.adr_checks.proofs.schema.Schema.number.Goals as goal
 
 pub returns-clause-number : goal.returns-clause-number

@@ -1,6 +1,6 @@
 use Rattle.std.proofs.Common.{ap, Result, Err}
 use Rattle.std.proofs.lemmas.Result.{err_from_is_err_and}
-use Rattle.adr_failure.specs.declared.Failure.{Failure}
+use Rattle.adr_values.specs.declared.failure.Failure.{Failure}
 use Rattle.adr_call.specs.declared.refusal.CollectRefusal.{CollectRefusal}
 use Rattle.adr_model.specs.Change.{Change}
 use Rattle.adr_model.specs.Replica.{change_in}

@@ -1,7 +1,7 @@
 use Rattle.std.proofs.Common.{◌≡◌, List, Option, false, sym, ap, subst, ◌∙◌, max, length}
 use Rattle.std.specs.Prelude.{IfSome}
 use Rattle.std.specs.Option.{option_or}
-use Rattle.adr_stamp.specs.declared.Oid.{Oid}
+use Rattle.adr_values.specs.declared.stamp.Oid.{Oid}
 use Rattle.adr_model.specs.Store.{Held, holds_object, updates_of}
 use Rattle.adr_model.specs.Take.{Taking, item_refusal, rows_taken}
 use Rattle.adr_model.specs.Live.{objects_of}

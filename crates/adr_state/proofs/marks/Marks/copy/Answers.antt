@@ -3,8 +3,8 @@ use Rattle.std.specs.Map.{keys_of}
 use Rattle.std.specs.BTreeMap.{insert_entry}
 use Rattle.std.specs.List.Sorted.{IsStrictlySortedBy}
 use Rattle.std.proofs.lemmas.Cmp.{nat_list_cmp_total}
-use Rattle.adr_stamp.specs.Order.{identifier_order}
-use Rattle.adr_schema.proofs.Tables.{insert_entry-last}
+use Rattle.adr_values.specs.Order.{identifier_order}
+use Rattle.adr_values.proofs.Tables.{insert_entry-last}
 use Rattle.adr_model.specs.Update.{Identifier}
 use Rattle.adr_model.specs.Store.{PartnerMark}
 use Rattle.adr_state.proofs.marks.Marks.copy.Goals as goal

@@ -1,6 +1,6 @@
 use Rattle.std.proofs.Common.{◌≡◌, [], Some, fold, take}
 use Rattle.std.specs.BTreeMap.{IsOrdered}
-use Rattle.adr_stamp.specs.Order.{identifier_order}
+use Rattle.adr_values.specs.Order.{identifier_order}
 use Rattle.adr_model.specs.Change.{with_mark}
 use Rattle.adr_model.specs.Store.{PartnerMark}
 use Rattle.adr_model.specs.Update.{Identifier}

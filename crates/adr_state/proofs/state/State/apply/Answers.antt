@@ -1,6 +1,6 @@
 use Rattle.std.proofs.Common.{◌≡◌, ◌∙◌, ◌<◌, ◌≤◌, ◌⊎◌, inl, inr, ℕ, List, [], length, Option, Some, None, refl, sym, ap, subst, arith}
 use Rattle.std.specs.Prelude.{IfSome, unwrap_or}
-use Rattle.adr_vector.specs.Vector.{Cursors, cursor_limit, joined, raised}
+use Rattle.adr_values.specs.Vector.{Cursors, cursor_limit, joined, raised}
 use Rattle.adr_model.specs.Update.{Identifier}
 use Rattle.adr_model.specs.Change.{Change, after, held_of, rows_after, with_mark}
 use Rattle.adr_model.specs.Store.{Held, PartnerMark, Mode, State}

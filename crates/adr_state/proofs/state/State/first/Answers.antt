@@ -1,7 +1,7 @@
 use Rattle.std.proofs.Common.{◌≡◌, ◌∙◌, Option, sym, ap}
 use Rattle.std.specs.Option.{option_map_or}
-use Rattle.adr_schema.specs.Schemas.{schema_1}
-use Rattle.adr_schema.specs.Table.{Table}
+use Rattle.adr_values.specs.Schemas.{schema_1}
+use Rattle.adr_values.specs.Table.{Table}
 use Rattle.adr_model.specs.Store.{empty_state, empty_store}
 use Rattle.adr_state.proofs.state.State.first.Goals as goal
 

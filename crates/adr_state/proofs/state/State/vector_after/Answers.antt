@@ -1,7 +1,7 @@
 use Rattle.std.proofs.Common.{◌≡◌, Result, Ok, Err, ap, arith}
 use Rattle.std.specs.Prelude.{IsErrAnd, IsErrOf}
-use Rattle.adr_vector.specs.Vector.{joined}
-use Rattle.adr_vector.proofs.Growing.{length-raised}
+use Rattle.adr_values.specs.Vector.{joined}
+use Rattle.adr_values.proofs.Growing.{length-raised}
 use Rattle.adr_state.proofs.state.State.vector_after.Goals as goal
 
 -- an error that is passed on is the one that came

@@ -1,5 +1,5 @@
 use Rattle.std.proofs.Common.{◌≡◌, ◌+◌, ◌<◌, ◌≤◌, List, ◌++◌, ◌∷◌, [], length, Some, None, true, false, sym, ap, ◌∙◌, arith, length-append}
-use Rattle.adr_schema.specs.declared.content.Value.{Value as Item}
+use Rattle.adr_values.specs.declared.content.Value.{Value as Item}
 use Rattle.adr_token.specs.Words.{strip_byte}
 use Rattle.adr_token.specs.Texts.{ends_word}
 use Rattle.adr_token.specs.Values.{values_at}

@@ -1,7 +1,7 @@
 use Rattle.std.proofs.Common.{◌≡◌, ◌&&◌, true, Some, option_map, ap, sym, ◌∙◌, subst}
 use Rattle.std.specs.Prelude.{codes}
 use Rattle.std.specs.Str.{bytes_eq}
-use Rattle.adr_schema.specs.Folding.{folded}
+use Rattle.adr_values.specs.Folding.{folded}
 use Rattle.adr_model.specs.Member.{Each, Member}
 use Rattle.adr_model.specs.Place.{Node, node_at, root}
 use Rattle.adr_model.specs.Update.{same_identifier}

@@ -1,5 +1,0 @@
-use Rattle.adr_schema.proofs.Extending.{schemas_grow}
-use Rattle.adr_schema.proofs.laws.schemas_grow.Goals as goal
-
-pub returns : goal.returns
-returns c = schemas_grow

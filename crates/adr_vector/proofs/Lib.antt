@@ -1,8 +1,0 @@
-pub mod Cursors
-pub mod Joining
-pub mod Placing
-pub mod Comparing
-pub mod Refusals
-pub mod Growing
-pub mod Known
-pub mod Moments

@@ -1,6 +1,0 @@
-use Rattle.std.proofs.Common.{arith}
-use Rattle.adr_vector.proofs.Joining.{length-merged}
-use Rattle.adr_vector.proofs.merging.count.Goals as goal
-
-pub overflow_add-count : goal.overflow_add-count
-overflow_add-count c = omega (arith, length-merged c.args.left.now c.args.right.now, c.loop-count.invariant)

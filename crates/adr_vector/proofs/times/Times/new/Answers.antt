@@ -1,8 +1,0 @@
-use Rattle.std.proofs.Common.{sym, subst}
-use Rattle.adr_vector.specs.Vector.{Cursors}
-use Rattle.adr_vector.specs.Times.{AreMoments}
-use Rattle.adr_vector.proofs.Cursors.{nil_rising}
-use Rattle.adr_vector.proofs.times.Times.new.Goals as goal
-
-pub invariant_of-result : goal.invariant_of-result
-invariant_of-result c = subst (λ (cs : Cursors). AreMoments cs) (sym c.new.ensures.items) (record { rising = nil_rising; from_one = tt })

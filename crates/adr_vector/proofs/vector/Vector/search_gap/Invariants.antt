@@ -1,7 +1,0 @@
-use Rattle.std.proofs.Common.{◌≡◌, drop}
-use Rattle.adr_vector.specs.Vector.{first_gap}
-use Rattle.adr_vector.proofs.vector.Vector.search_gap.Given as goal
-
--- the first gap is among the cursors that are left
-abbrev pub invariant-loop-inv : goal.invariant-loop-inv
-invariant-loop-inv l = first_gap (drop l.inv-index l.inv-items) l.other ≡ first_gap l.self l.other
