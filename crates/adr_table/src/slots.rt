@@ -156,14 +156,27 @@ impl Slots {
     {
         let mut from = Bound::Included(start);
         for _ in 0..self.map.len() {
-            match self.next_place(from) {
-                Some(place) if start.begins_run_of(&place) => {
+            match self.next_empty(&start, from) {
+                Some(place) => {
                     self.free(&place);
                     from = Bound::Excluded(place);
                 }
-                _ => return,
+                None => return,
             }
         }
+    }
+
+    /// The first place of a run whose slot is empty, from a bound on.
+    fn next_empty(&self, start: &Place, from: Bound<Place>) -> Option<Place> {
+        for (place, slot) in self.map.range((from, Bound::Unbounded)) {
+            if !start.begins_run_of(place) {
+                return None;
+            }
+            if slot.is_none() {
+                return Some(*place);
+            }
+        }
+        None
     }
 
     /// The first place with a slot, from a bound on.
