@@ -53,7 +53,6 @@ OTHERS = [
     ("adr_law_journal", "fn *"),
     ("adr_law_controller", "fn *"),
     ("adr_law_convergence", "fn *"),
-    ("adr_law_rounds", "fn *"),
     ("adr_law_headline", "fn *"),
     ("adr_law_rollback", "fn *"),
 ]

@@ -3,7 +3,7 @@ use Rattle.std.proofs.Common.{◌≡◌, ◌<◌, List, [], ◌∷◌, ℕ, suc,
 use Rattle.std.specs.Prelude.{flat_map}
 use Rattle.std.proofs.lemmas.Grind.{flat_map-append}
 use Rattle.std.proofs.lemmas.List.{append-nil, take_more}
-use Rattle.adr_event.specs.declared.answer.Answer.{Answer}
+use Rattle.adr_call.specs.declared.answer.Answer.{Answer}
 use Rattle.adr_io.specs.Told.{Adds, AddsFront}
 use Rattle.adr_answers.specs.Line.{line}
 use Rattle.adr_answers.proofs.Due.{Remains, all_remains, rest_remains, adds_more, front_remains, less_remains}

@@ -1,6 +1,6 @@
 -- Which lines have one answer.
-use Rattle.adr_event.specs.declared.event.Event.{Event}
-use Rattle.adr_event.specs.declared.event.Event.TheVariants.{Cycle, Pull, Ring, Time}
+use Rattle.adr_call.specs.declared.event.Event.{Event}
+use Rattle.adr_call.specs.declared.event.Event.TheVariants.{Cycle, Pull, Ring, Time}
 
 -- a line that is done before its answers are written: there are at most three
 abbrev pub IsAtOnce : Event → Type 0

@@ -3,7 +3,7 @@ use Rattle.std.specs.Prelude.{ℕ, List, Bool, true, false, [], ◌∷◌, ◌++
 use Rattle.std.specs.Fmt.{decimal}
 use Rattle.adr_values.specs.declared.content.Value.{Value as Item}
 use Rattle.adr_values.specs.declared.mark.Mark.{Mark}
-use Rattle.adr_event.specs.declared.answer.Answer.{Answer}
+use Rattle.adr_call.specs.declared.answer.Answer.{Answer}
 use Rattle.adr_call.specs.declared.outcome.Field.{Field}
 use Rattle.adr_call.specs.declared.outcome.Plainly.{Plainly}
 use Rattle.adr_call.specs.declared.outcome.Plainly.TheVariants.{Id, Number, Mark as OneMark, Attr, Word}

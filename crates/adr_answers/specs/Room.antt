@@ -1,7 +1,7 @@
 -- How much room the line of an answer takes, and where its sink may want memory.
 use Rattle.std.specs.Prelude.{◌≡◌, ◌⊎◌, ℕ, ◌+◌, ◌-◌, ◌^◌, ◌≤◌, List, length}
 use Rattle.std.specs.List.{sum_by}
-use Rattle.adr_event.specs.declared.answer.Answer.{Answer}
+use Rattle.adr_call.specs.declared.answer.Answer.{Answer}
 use Rattle.adr_call.specs.declared.outcome.Field.{Field}
 use Rattle.adr_call.specs.declared.outcome.Plainly.{Plainly}
 use Rattle.adr_call.specs.declared.outcome.Plainly.TheVariants.{Word}

@@ -1,6 +1,6 @@
 -- What want of memory leaves of the lines of answers.
 use Rattle.std.specs.Prelude.{ℕ, ◌<◌, List, Option, flat_map, length, take}
-use Rattle.adr_event.specs.declared.answer.Answer.{Answer}
+use Rattle.adr_call.specs.declared.answer.Answer.{Answer}
 use Rattle.adr_io.specs.Told.{Adds}
 use Rattle.adr_answers.specs.Line.{line}
 

@@ -1,11 +1,10 @@
 //! What stands at the head of an answer.
 
 ghost use Rattle.std.specs.Prelude.{◌≡◌, IfOk};
-ghost use Rattle.adr_event.specs.Verbs.{name_of};
+ghost use Rattle.adr_call.specs.Verbs.{name_of};
 ghost use Rattle.adr_answers.specs.Alone.{HasOneAnswer};
 
-use adr_call::Outcome;
-use adr_event::{Answer, Event};
+use adr_call::{Answer, Event, Outcome};
 use adr_values::{NoMemory, Text};
 use std::alloc::Global;
 

@@ -9,8 +9,7 @@ ghost use Rattle.adr_answers.specs.Line.{plain_text, from_to, left_text, counts_
 
 use crate::each::push_each;
 use crate::knowledge::{push_mark, push_number_behind};
-use adr_call::{Field, Outcome, Plainly};
-use adr_event::Answer;
+use adr_call::{Answer, Field, Outcome, Plainly};
 use adr_token::{push, push_attribute, push_identifier, push_number};
 use adr_values::{Mark, NoMemory};
 use std::alloc::Global;

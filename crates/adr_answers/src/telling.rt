@@ -7,7 +7,7 @@ ghost use Rattle.adr_answers.specs.Room.{IsWithin, MayWant};
 ghost use Rattle.adr_answers.specs.Whole.{AddsFirstLines};
 
 use crate::lines::push_line;
-use adr_event::Answer;
+use adr_call::Answer;
 use adr_io::{Fault, Sink};
 
 /// Writes the lines of answers, one write each, and makes each in this room. Where memory is wanting, no line is written in

@@ -1,1 +1,3 @@
 pub mod Few
+pub mod Verbs
+pub mod Supported

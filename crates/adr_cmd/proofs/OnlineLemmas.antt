@@ -12,10 +12,10 @@ use Rattle.adr_schedule.specs.Limits.{text_limit}
 use Rattle.adr_online.specs.Serves.{Hands as AtServer}
 use Rattle.adr_online.specs.declared.ended.Online.TheVariants as online
 use Rattle.adr_online.proofs.Begun.{none_served}
-use Rattle.adr_dial.specs.Pulls.{Hands as AtPull}
-use Rattle.adr_dial.specs.declared.ended.Pulled.TheVariants as pulls
-use Rattle.adr_dial.specs.declared.ended.Sent.TheVariants as sends
-use Rattle.adr_dial.proofs.Begun.{none_pulled}
+use Rattle.adr_online.specs.Pulls.{Hands as AtPull}
+use Rattle.adr_online.specs.declared.ended.Pulled.TheVariants as pulls
+use Rattle.adr_online.specs.declared.ended.Sent.TheVariants as sends
+use Rattle.adr_online.proofs.Started.{none_pulled}
 use Rattle.adr_cmd.specs.Online.{PullsSo, SendsSo, ServesSo}
 use Rattle.adr_cmd.proofs.DiskLemmas.{OnlyNow, none_begun}
 

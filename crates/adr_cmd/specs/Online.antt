@@ -9,12 +9,12 @@ use Rattle.adr_node.specs.Seen.{of_disk}
 use Rattle.adr_online.specs.Serves.{Serves, Hands as AtServer}
 use Rattle.adr_online.specs.declared.ended.Online.{Online}
 use Rattle.adr_online.specs.declared.ended.Online.TheVariants as online
-use Rattle.adr_dial.specs.Pulls.{Pulls, Hands as AtPull}
-use Rattle.adr_dial.specs.Sends.{Sends}
-use Rattle.adr_dial.specs.declared.ended.Pulled.{Pulled}
-use Rattle.adr_dial.specs.declared.ended.Pulled.TheVariants as pulls
-use Rattle.adr_dial.specs.declared.ended.Sent.{Sent}
-use Rattle.adr_dial.specs.declared.ended.Sent.TheVariants as sends
+use Rattle.adr_online.specs.Pulls.{Pulls, Hands as AtPull}
+use Rattle.adr_online.specs.Sends.{Sends}
+use Rattle.adr_online.specs.declared.ended.Pulled.{Pulled}
+use Rattle.adr_online.specs.declared.ended.Pulled.TheVariants as pulls
+use Rattle.adr_online.specs.declared.ended.Sent.{Sent}
+use Rattle.adr_online.specs.declared.ended.Sent.TheVariants as sends
 use Rattle.adr_words.specs.declared.kinds.Command.{Command}
 use Rattle.adr_words.specs.declared.kinds.Command.TheVariants as commands
 

@@ -4,10 +4,9 @@ ghost use Rattle.std.specs.Prelude.{◌≡◌, ◌⊎◌, ◌<◌, ◌≤◌};
 ghost use Rattle.adr_cmd.specs.Online.{PullsSo, SendsSo, ServesSo, status_of_pull, status_of_send, status_of_server};
 
 use adr_call::Text;
-use adr_dial::{Pulled, Sent, pull, send};
 use adr_disk::Disk;
 use adr_io::{Sink, Source};
-use adr_online::{Online, serve};
+use adr_online::{Online, Pulled, Sent, pull, send, serve};
 use adr_outside::{Clock, Net};
 use std::alloc::Global;
 

@@ -25,7 +25,7 @@ use Rattle.adr_model.specs.Sound.{AreClassesKnown}
 use Rattle.adr_model.specs.Store.{Held, PartnerMark, State, empty_store, updates_of}
 use Rattle.adr_model.specs.Update.{Identifier, Update}
 use Rattle.adr_model.proofs.Members.{flat_member, mapped_member, member_mapped, of_filter}
-use Rattle.adr_law_steps.proofs.Rows.{put_from}
+use Rattle.adr_law_calls.proofs.Rows.{put_from}
 use Rattle.adr_image.specs.Body.{IsMarkIf, IsWrite, Write}
 use Rattle.adr_image.specs.Changes.{HasBody, item_of, written_of}
 use Rattle.adr_image.specs.Image.{Marked}

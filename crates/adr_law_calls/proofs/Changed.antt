@@ -21,12 +21,12 @@ use Rattle.adr_model.specs.Formed.{IsFormed}
 use Rattle.adr_model.specs.Write.{Modify, Rename, Delete, object_refusal, nodes_held, class_of, object_of, next_row, modify_refusals, modify_refusal, rename_refusals, rename_refusal, delete_refusals, delete_refusal, rows_written}
 use Rattle.adr_model.specs.Given.{AreInOrder}
 use Rattle.adr_model.proofs.Members.{mapped_member}
-use Rattle.adr_law_steps.specs.Puts.{MayPut}
-use Rattle.adr_law_steps.specs.Forms.{IsWellSaid}
+use Rattle.adr_law_calls.specs.Puts.{MayPut}
+use Rattle.adr_law_calls.specs.Forms.{IsWellSaid}
 use Rattle.adr_law_calls.specs.MayWrites.{IsLive, MayWrite}
 use Rattle.adr_law_knowledge.proofs.Refusing.{none_there, not_mapped}
 use Rattle.adr_law_calls.proofs.Nodes.{object_is_live}
-use Rattle.adr_law_steps.proofs.Rising.{one_update}
+use Rattle.adr_law_calls.proofs.Rising.{one_update}
 use Rattle.adr_law_calls.proofs.Stamps.{next_is_above, one_may_be_put}
 use Rattle.adr_law_calls.proofs.Values.{place_of, one_given, plain_is_above}
 use Rattle.adr_law_calls.proofs.Saids.{live_is_held, may_change, name_well_said, death_well_said, values_well_said}

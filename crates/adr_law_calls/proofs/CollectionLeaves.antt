@@ -17,9 +17,9 @@ use Rattle.adr_model.specs.Sound.{last_of, IsSoundBook, IsSoundState}
 use Rattle.adr_model.proofs.Members.{member_left}
 use Rattle.adr_law_knowledge.specs.Grows.{Grows, Keeps}
 use Rattle.adr_law_knowledge.proofs.Knows.{grows_keeps}
-use Rattle.adr_law_logs.proofs.Empty.{empty_is_formed}
-use Rattle.adr_law_logs.proofs.Frames.{born_before}
-use Rattle.adr_law_logs.specs.Settling.{Leaves}
+use Rattle.adr_law_calls.proofs.Empty.{empty_is_formed}
+use Rattle.adr_law_calls.proofs.Frames.{born_before}
+use Rattle.adr_law_calls.specs.Settling.{Leaves}
 use Rattle.adr_law_calls.specs.Collectable.{IsCollectable}
 use Rattle.adr_law_calls.proofs.PurgedVector.{purged_up}
 use Rattle.adr_law_calls.proofs.Removing.{row_of_tells, update_stood, update_stands}

@@ -29,8 +29,8 @@ use Rattle.adr_model.specs.Formed.{IsFormed}
 use Rattle.adr_model.specs.Write.{AddObject, object_limit, is_of_guid, holds_guid, first_stamp, new_object, new_rows, row, add_refusals, add_refusal, rows_written}
 use Rattle.adr_model.specs.Given.{AreInOrder}
 use Rattle.adr_model.proofs.Members.{each_fails, mapped_member, member_mapped}
-use Rattle.adr_law_steps.specs.Puts.{MayPut}
-use Rattle.adr_law_steps.specs.Forms.{IsWellSaid, MayCome}
+use Rattle.adr_law_calls.specs.Puts.{MayPut}
+use Rattle.adr_law_calls.specs.Forms.{IsWellSaid, MayCome}
 use Rattle.adr_law_calls.specs.MayWrites.{HasRoom, MayWrite}
 use Rattle.adr_law_knowledge.proofs.Refusing.{none_there, not_mapped}
 use Rattle.adr_law_calls.proofs.Refusals.{not_so, not_full}

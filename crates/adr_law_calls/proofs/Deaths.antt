@@ -12,7 +12,7 @@ use Rattle.adr_model.specs.Store.{Held, State}
 use Rattle.adr_model.specs.Change.{killed_by}
 use Rattle.adr_model.specs.Collect.{collected_by, deaths_to_collect}
 use Rattle.adr_model.proofs.Members.{of_filter_map}
-use Rattle.adr_law_steps.proofs.Rows.{is_killed}
+use Rattle.adr_law_calls.proofs.Rows.{is_killed}
 use Rattle.adr_law_calls.specs.Collectable.{IsCollectable}
 
 -- what a test of an object comes to, where it gives one

@@ -19,10 +19,10 @@ use Rattle.adr_model.specs.Serve.{Reply}
 use Rattle.adr_model.specs.Take.{same_mark, kept_mark}
 use Rattle.adr_model.specs.Replica.{Book, log_of}
 use Rattle.adr_model.specs.Sound.{IsSoundBook, IsSoundMark, IsSoundState, IsSoundReply}
-use Rattle.adr_law_logs.proofs.Marks.{no_mark_holds}
+use Rattle.adr_law_calls.proofs.Marks.{no_mark_holds}
 use Rattle.adr_law_knowledge.proofs.Refusing.{is_so, no_gap}
-use Rattle.adr_law_logs.proofs.Tables.{each_found}
-use Rattle.adr_law_logs.proofs.Bounds.{nothing_at_0_is_split}
+use Rattle.adr_law_calls.proofs.Tables.{each_found}
+use Rattle.adr_law_calls.proofs.Bounds.{nothing_at_0_is_split}
 use Rattle.adr_law_calls.specs.OnTheWay.{IsSoundBase, IsTakeable}
 
 -- ---- the kept mark

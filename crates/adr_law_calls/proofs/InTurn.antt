@@ -11,7 +11,7 @@ use Rattle.adr_model.specs.Store.{Held, Normal, State}
 use Rattle.adr_model.specs.Change.{Written, put, held_of, rows_after, after}
 use Rattle.adr_model.specs.Formed.{IsFormed}
 use Rattle.adr_model.specs.Write.{own_change}
-use Rattle.adr_law_steps.specs.Puts.{held_at}
+use Rattle.adr_law_calls.specs.Puts.{held_at}
 use Rattle.adr_law_calls.specs.MayWrites.{after_item, MayWriteInTurn}
 use Rattle.adr_law_calls.proofs.WriteFormed.{write_formed}
 

@@ -14,12 +14,12 @@ use Rattle.adr_model.proofs.Members.{member_left, member_right, member_of_either
 use Rattle.adr_law_knowledge.specs.Grows.{Grows}
 use Rattle.adr_law_knowledge.proofs.Knows.{grows_keeps, grows_trans}
 use Rattle.adr_law_knowledge.proofs.Lists.{alone_from}
-use Rattle.adr_law_logs.specs.Later.{AreIssuedBy, MayIssue}
-use Rattle.adr_law_logs.specs.Settling.{Leaves}
-use Rattle.adr_law_logs.proofs.Empty.{empty_is_formed}
-use Rattle.adr_law_logs.proofs.Recorded.{recorded_sound}
-use Rattle.adr_law_logs.proofs.Leaving.{sound_state_is_left}
-use Rattle.adr_law_logs.proofs.Written.{held_from}
+use Rattle.adr_law_calls.specs.Later.{AreIssuedBy, MayIssue}
+use Rattle.adr_law_calls.specs.Settling.{Leaves}
+use Rattle.adr_law_calls.proofs.Empty.{empty_is_formed}
+use Rattle.adr_law_calls.proofs.Recorded.{recorded_sound}
+use Rattle.adr_law_calls.proofs.Leaving.{sound_state_is_left}
+use Rattle.adr_law_calls.proofs.Written.{held_from}
 use Rattle.adr_law_calls.specs.MayWrites.{after_item, MayWrite, MayWriteInTurn}
 use Rattle.adr_law_calls.proofs.Issues.{change_of, write_may_issue}
 use Rattle.adr_law_calls.proofs.WriteFormed.{stands, are_written}

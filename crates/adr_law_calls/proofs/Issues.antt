@@ -7,8 +7,8 @@ use Rattle.adr_model.specs.Write.{own_change}
 use Rattle.adr_model.specs.Replica.{Book}
 use Rattle.adr_model.specs.Sound.{IsSoundBook, IsSoundState}
 use Rattle.adr_model.proofs.Members.{member_left, member_right, mapped_member}
-use Rattle.adr_law_logs.specs.Later.{MayIssue}
-use Rattle.adr_law_steps.specs.Puts.{held_at}
+use Rattle.adr_law_calls.specs.Later.{MayIssue}
+use Rattle.adr_law_calls.specs.Puts.{held_at}
 use Rattle.adr_law_calls.specs.MayWrites.{MayWrite}
 use Rattle.adr_law_knowledge.proofs.Lists.{alone_from}
 use Rattle.adr_law_calls.proofs.Writes.{end_of_unit, ends_born, class_rows_born}

@@ -18,10 +18,10 @@ use Rattle.adr_model.specs.Sound.{IsExact}
 use Rattle.adr_law_knowledge.proofs.Knows.{end_of_row}
 use Rattle.adr_model.proofs.Members.{of_filter}
 use Rattle.adr_law_calls.specs.OnTheWay.{IsTakeable, known_with, source_rows, AreOnTheWay}
-use Rattle.adr_law_steps.proofs.Rows.{link_of_unit}
+use Rattle.adr_law_calls.proofs.Rows.{link_of_unit}
 use Rattle.adr_law_calls.proofs.Tests.{at_least_is_not_above}
 use Rattle.adr_law_calls.proofs.Standings.{each_presence, IsThere, there_where_untested, left_from}
-use Rattle.adr_law_steps.proofs.Rising.{one_of_key}
+use Rattle.adr_law_calls.proofs.Rising.{one_of_key}
 use Rattle.adr_law_calls.proofs.OnTheWay.{purged_is_covered, new_is_lacked}
 use Rattle.adr_law_calls.proofs.ItemRows.{item_units, row_key, row_of_attr}
 use Rattle.adr_law_calls.proofs.ItemPut.{taken_from}

@@ -19,15 +19,15 @@ use Rattle.adr_model.specs.Take.{is_above, is_of_attr, is_reserved_row, left_by_
 use Rattle.adr_model.specs.Replica.{Book}
 use Rattle.adr_model.specs.Sound.{IsExact}
 use Rattle.adr_model.proofs.Members.{of_filter}
-use Rattle.adr_law_steps.specs.Puts.{MayPut}
-use Rattle.adr_law_steps.specs.Forms.{HasKey, MayCome}
+use Rattle.adr_law_calls.specs.Puts.{MayPut}
+use Rattle.adr_law_calls.specs.Forms.{HasKey, MayCome}
 use Rattle.adr_law_calls.specs.KeepForms.{KeepForms}
 use Rattle.adr_law_calls.specs.OnTheWay.{IsTakeable, source_rows, AreOnTheWay}
-use Rattle.adr_law_steps.proofs.Rows.{link_of_unit}
+use Rattle.adr_law_calls.proofs.Rows.{link_of_unit}
 use Rattle.adr_law_calls.proofs.Tests.{above_supersedes}
 use Rattle.adr_law_calls.proofs.Standings.{each_presence, IsThere, there_where_untested, deaths_are_reserved, left_from, reserved_is_left, bare_beside_death, left_or_dead}
 use Rattle.adr_law_calls.proofs.Source.{well_said}
-use Rattle.adr_law_steps.proofs.Rising.{one_of_key}
+use Rattle.adr_law_calls.proofs.Rising.{one_of_key}
 use Rattle.adr_law_calls.proofs.OnTheWay.{source_one, source_formed, source_classes, comes_whole}
 use Rattle.adr_law_calls.proofs.ItemRows.{in_source, item_units, may_put, row_key, row_of_attr, source_holds, may_change}
 

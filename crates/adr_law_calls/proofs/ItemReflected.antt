@@ -20,7 +20,7 @@ use Rattle.adr_model.proofs.Members.{in_filter, of_filter}
 use Rattle.adr_law_knowledge.proofs.Comparing.{supersedes_self}
 use Rattle.adr_law_knowledge.proofs.Knows.{reflects_by_death}
 use Rattle.adr_law_calls.specs.OnTheWay.{IsTakeable, known_with, source_rows, AreOnTheWay}
-use Rattle.adr_law_steps.proofs.Rows.{link_of_unit}
+use Rattle.adr_law_calls.proofs.Rows.{link_of_unit}
 use Rattle.adr_law_calls.proofs.Tests.{not_above}
 use Rattle.adr_law_calls.proofs.Standings.{each_presence, IsLost, lost_where_tested, is_death, left_from, left_or_dead}
 use Rattle.adr_law_calls.proofs.OnTheWay.{source_issued, gone_is_purged}

@@ -16,10 +16,10 @@ use Rattle.adr_model.specs.Serve.{Reply}
 use Rattle.adr_model.specs.Take.{is_of_attr, is_reserved_row}
 use Rattle.adr_model.specs.Replica.{Book}
 use Rattle.adr_model.specs.Sound.{IsExact}
-use Rattle.adr_law_steps.specs.Puts.{MayPut}
-use Rattle.adr_law_steps.specs.Forms.{IsWellSaid, MayChange}
+use Rattle.adr_law_calls.specs.Puts.{MayPut}
+use Rattle.adr_law_calls.specs.Forms.{IsWellSaid, MayChange}
 use Rattle.adr_law_calls.specs.OnTheWay.{IsTakeable, source_rows, AreOnTheWay}
-use Rattle.adr_law_steps.proofs.Rows.{updated, row_of_unit}
+use Rattle.adr_law_calls.proofs.Rows.{updated, row_of_unit}
 use Rattle.adr_law_calls.proofs.Standings.{of_attr}
 use Rattle.adr_law_calls.proofs.Source.{well_said}
 use Rattle.adr_law_calls.proofs.OnTheWay.{one_birth, source_one, source_formed, source_classes, source_issued}

@@ -18,12 +18,12 @@ use Rattle.adr_model.specs.Sound.{IsSent}
 use Rattle.adr_model.proofs.Members.{member_of_either}
 use Rattle.adr_law_knowledge.specs.Grows.{Grows}
 use Rattle.adr_law_knowledge.proofs.Knows.{grows_trans, grows_self}
-use Rattle.adr_law_steps.specs.Puts.{held_at, under, MayPut, ArePut}
+use Rattle.adr_law_calls.specs.Puts.{held_at, under, MayPut, ArePut}
 use Rattle.adr_law_calls.specs.KeepForms.{KeepForms}
 use Rattle.adr_law_calls.specs.OnTheWay.{IsTakeable, known_with, AreOnTheWay, IsTakenSoFar, StaysFormed}
-use Rattle.adr_law_steps.proofs.Rows.{updated}
-use Rattle.adr_law_steps.proofs.Putting.{are_put, puts_grow}
-use Rattle.adr_law_steps.proofs.Order.{puts_rise, puts_stay_alone, puts_stay_within}
+use Rattle.adr_law_calls.proofs.Rows.{updated}
+use Rattle.adr_law_calls.proofs.Putting.{are_put, puts_grow}
+use Rattle.adr_law_calls.proofs.Order.{puts_rise, puts_stay_alone, puts_stay_within}
 use Rattle.adr_law_calls.proofs.PutForms.{under_usn, whence_update, rows_stay_formed, rows_stay_closed}
 use Rattle.adr_law_calls.proofs.OnTheWay.{purged_within}
 

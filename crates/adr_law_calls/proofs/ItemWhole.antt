@@ -25,12 +25,12 @@ use Rattle.adr_model.specs.Take.{is_of_attr, has_row, left_by_death, is_lost_end
 use Rattle.adr_model.specs.Replica.{Book}
 use Rattle.adr_model.specs.Sound.{IsExact}
 use Rattle.adr_model.proofs.Members.{found, none_passes, one_passes}
-use Rattle.adr_law_steps.specs.Forms.{HasKey, IsWellSaid, MayCome}
+use Rattle.adr_law_calls.specs.Forms.{HasKey, IsWellSaid, MayCome}
 use Rattle.adr_law_calls.specs.OnTheWay.{IsTakeable, source_rows, AreOnTheWay}
-use Rattle.adr_law_steps.proofs.Rows.{updated, held_as, link_of_unit}
+use Rattle.adr_law_calls.proofs.Rows.{updated, held_as, link_of_unit}
 use Rattle.adr_law_calls.proofs.Tests.{IsFound, row_found}
 use Rattle.adr_law_calls.proofs.Standings.{each_presence, attr_itself, tested_where_has, left_from}
-use Rattle.adr_law_steps.proofs.Rising.{one_update}
+use Rattle.adr_law_calls.proofs.Rising.{one_update}
 use Rattle.adr_law_calls.proofs.OnTheWay.{source_formed}
 use Rattle.adr_law_calls.proofs.ItemRows.{in_source, item_units, item_one, row_key, row_of_attr, said_of_held, class_is_known}
 use Rattle.adr_law_calls.proofs.ItemPut.{named, may_come, some_or_none}

@@ -20,13 +20,13 @@ use Rattle.adr_model.specs.Formed.{IsFormed}
 use Rattle.adr_model.specs.Write.{AddLink, RemoveLink, object_refusal, full_refusal, nodes_held, class_of, object_of, link_of, is_linked, says_present, links_in, link_limit, more_links, any_link_refusals, any_link_refusal, link_refusal, unlink_refusal, rows_written}
 use Rattle.std.specs.Bool.{then_some}
 use Rattle.adr_law_knowledge.proofs.Comparing.{keys_tell}
-use Rattle.adr_law_steps.proofs.Rows.{updated}
+use Rattle.adr_law_calls.proofs.Rows.{updated}
 use Rattle.adr_law_calls.specs.MayWrites.{IsHeldAlive, HoldsLink, MayWrite}
 use Rattle.adr_law_knowledge.proofs.Refusing.{none_there, not_mapped}
 use Rattle.adr_law_calls.proofs.Refusals.{is_so, not_full}
 use Rattle.adr_model.proofs.Members.{found_member}
 use Rattle.adr_law_calls.proofs.Nodes.{object_is_live}
-use Rattle.adr_law_steps.proofs.Rising.{one_update}
+use Rattle.adr_law_calls.proofs.Rising.{one_update}
 use Rattle.adr_law_calls.proofs.Stamps.{written, one_may_be_put}
 use Rattle.adr_law_calls.proofs.Saids.{live_is_held}
 

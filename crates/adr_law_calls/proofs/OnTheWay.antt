@@ -14,10 +14,10 @@ use Rattle.adr_model.specs.Serve.{Reply}
 use Rattle.adr_model.specs.Replica.{Book, log_of}
 use Rattle.adr_model.specs.Sound.{IsSoundBook, IsExact, AreClassesKnown}
 use Rattle.adr_law_knowledge.proofs.Knows.{grows_keeps, absent_is_purged, birth_is, covered_absent}
-use Rattle.adr_law_logs.proofs.Marks.{past_below}
+use Rattle.adr_law_calls.proofs.Marks.{past_below}
 use Rattle.adr_law_calls.specs.OnTheWay.{IsTakeable, known_with, source_rows, AreOnTheWay}
-use Rattle.adr_law_steps.proofs.Rows.{held_as}
-use Rattle.adr_law_steps.proofs.Rising.{one_update}
+use Rattle.adr_law_calls.proofs.Rows.{held_as}
+use Rattle.adr_law_calls.proofs.Rising.{one_update}
 
 -- both are births of the object: of one key, identifier and USN
 pub one_birth : (book : Book) → IsSoundBook book → (o : Oid) (b c : Update) → Member b book.issued → Member c book.issued → b.key ≡ RowOf o class_attr → c.key ≡ RowOf o class_attr → b ≡ c

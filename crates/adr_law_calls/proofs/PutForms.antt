@@ -9,10 +9,10 @@ use Rattle.adr_model.specs.Reflects.{Numbers}
 use Rattle.adr_model.specs.Store.{Held, updates_of}
 use Rattle.adr_model.specs.Formed.{AreRising, AreFormedRows}
 use Rattle.adr_model.proofs.Members.{mapped_member}
-use Rattle.adr_law_steps.specs.Puts.{held_at, under, MayPut, ArePut, AreClosed}
-use Rattle.adr_law_steps.proofs.Rows.{updated, held_as}
-use Rattle.adr_law_steps.proofs.Formed.{objects_stay_formed, objects_stay_closed}
-use Rattle.adr_law_steps.proofs.Links.{links_stay_formed_by_puts, links_stay_closed}
+use Rattle.adr_law_calls.specs.Puts.{held_at, under, MayPut, ArePut, AreClosed}
+use Rattle.adr_law_calls.proofs.Rows.{updated, held_as}
+use Rattle.adr_law_calls.proofs.Formed.{objects_stay_formed, objects_stay_closed}
+use Rattle.adr_law_calls.proofs.Links.{links_stay_formed_by_puts, links_stay_closed}
 use Rattle.adr_law_calls.specs.KeepForms.{KeepForms}
 
 pub under_usn : (usn : ℕ) (us : List Update) (h : Held) → Member h (under usn us) → Member h.update us × (h.local ≡ usn)

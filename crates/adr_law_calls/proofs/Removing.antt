@@ -12,9 +12,9 @@ use Rattle.adr_model.specs.Formed.{AreAlone}
 use Rattle.adr_model.proofs.Members.{in_filter, of_filter}
 use Rattle.adr_model.proofs.Keys.{objects_tell}
 use Rattle.adr_law_knowledge.proofs.Comparing.{objects_same}
-use Rattle.adr_law_logs.proofs.Units.{removals_from}
-use Rattle.adr_law_steps.proofs.Rows.{updated, held_as, row_by_unit}
-use Rattle.adr_law_steps.proofs.Locals.{same_last}
+use Rattle.adr_law_calls.proofs.Units.{removals_from}
+use Rattle.adr_law_calls.proofs.Rows.{updated, held_as, row_by_unit}
+use Rattle.adr_law_calls.proofs.Locals.{same_last}
 
 abbrev pub without : List Oid → List Held → List Held
 without os rows = fold without_object rows os

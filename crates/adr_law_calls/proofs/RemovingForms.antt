@@ -9,7 +9,7 @@ use Rattle.adr_model.specs.Reflects.{HoldsObject, IsTombstoned}
 use Rattle.adr_model.specs.Store.{Held, updates_of}
 use Rattle.adr_model.specs.Formed.{IsLinkFormed, AreFormedRows}
 use Rattle.adr_model.specs.Sound.{AreClassesKnown}
-use Rattle.adr_law_steps.proofs.FormedSame.{named_same, object_same}
+use Rattle.adr_law_calls.proofs.FormedSame.{named_same, object_same}
 use Rattle.adr_law_calls.proofs.Removing.{without, row_of_tells, update_stood, update_stands, removed_is_absent}
 
 module _ (os : List Oid) (rows : List Held) where

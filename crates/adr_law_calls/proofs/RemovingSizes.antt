@@ -6,8 +6,8 @@ use Rattle.adr_model.specs.Store.{Held, updates_of}
 use Rattle.adr_model.specs.Write.{links_in}
 use Rattle.adr_model.specs.Formed.{AreRising}
 use Rattle.adr_law_knowledge.proofs.Standing.{among_objects, objects_within}
-use Rattle.adr_law_steps.proofs.Rows.{updated}
-use Rattle.adr_law_steps.proofs.Counts.{links_within}
+use Rattle.adr_law_calls.proofs.Rows.{updated}
+use Rattle.adr_law_calls.proofs.Counts.{links_within}
 use Rattle.adr_law_knowledge.proofs.RisingHeld.{removals_rise}
 use Rattle.adr_law_calls.proofs.Removing.{without, stood_before, update_stood}
 

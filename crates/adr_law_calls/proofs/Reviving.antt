@@ -43,11 +43,11 @@ use Rattle.adr_law_knowledge.specs.Rises.{Rises}
 use Rattle.adr_law_knowledge.proofs.Lists.{sorted_rises, of_sorted}
 use Rattle.adr_law_knowledge.proofs.Comparing.{objects_same}
 use Rattle.adr_law_knowledge.proofs.Refusing.{none_there, not_mapped}
-use Rattle.adr_law_steps.specs.Puts.{held_at, ArePut}
-use Rattle.adr_law_steps.proofs.Rows.{held_as, updated, same_link}
-use Rattle.adr_law_steps.proofs.Rising.{one_update}
-use Rattle.adr_law_steps.proofs.Putting.{objects_stay}
-use Rattle.adr_law_steps.proofs.Counts.{links_within, one_link_more}
+use Rattle.adr_law_calls.specs.Puts.{held_at, ArePut}
+use Rattle.adr_law_calls.proofs.Rows.{held_as, updated, same_link}
+use Rattle.adr_law_calls.proofs.Rising.{one_update}
+use Rattle.adr_law_calls.proofs.Putting.{objects_stay}
+use Rattle.adr_law_calls.proofs.Counts.{links_within, one_link_more}
 use Rattle.adr_law_calls.specs.MayWrites.{HasRoom, IsHeldAlive, MayWrite, after_item, MayWriteInTurn}
 use Rattle.adr_law_calls.proofs.Nodes.{live_node}
 use Rattle.adr_law_calls.proofs.Saids.{live_is_held}

@@ -11,13 +11,13 @@ use Rattle.adr_model.specs.Live.{objects_of}
 use Rattle.adr_model.specs.Store.{Held, State, updates_of}
 use Rattle.adr_model.specs.Write.{object_limit, link_limit, links_in}
 use Rattle.adr_model.specs.Formed.{AreRising, IsFormed}
-use Rattle.adr_law_steps.specs.Puts.{ArePut}
+use Rattle.adr_law_calls.specs.Puts.{ArePut}
 use Rattle.adr_law_calls.specs.MayWrites.{Changes, Comes, HoldsLink, MayWrite}
 use Rattle.adr_law_knowledge.proofs.Standing.{among_objects, objects_within}
-use Rattle.adr_law_steps.proofs.Counts.{links_within, one_link_more}
+use Rattle.adr_law_calls.proofs.Counts.{links_within, one_link_more}
 use Rattle.adr_law_knowledge.proofs.Raised.{raised_replaces}
 use Rattle.adr_law_calls.proofs.PutForms.{whence, whence_update}
-use Rattle.adr_law_steps.proofs.Rows.{held_as, object_of_row, no_link_row, no_object_row, same_link}
+use Rattle.adr_law_calls.proofs.Rows.{held_as, object_of_row, no_link_row, no_object_row, same_link}
 
 -- where a row stands, a USN was used, and so the own cursor is there
 pub few_cursors : (s : State) (r : Update) → IsFormed s → Member r (updates_of s.store.rows) → length (raised s.store.vector s.inv (s.store.usn + 1)) ≤ cursor_limit

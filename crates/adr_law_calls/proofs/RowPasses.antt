@@ -16,7 +16,7 @@ use Rattle.adr_model.specs.Member.{Each}
 use Rattle.adr_values.specs.First.{first_of}
 use Rattle.adr_model.specs.Update.{RowOf, LinkOf, Update, Said, Holds}
 use Rattle.adr_model.specs.Take.{is_birth, broken, row_fault}
-use Rattle.adr_law_steps.specs.Forms.{IsWellSaid}
+use Rattle.adr_law_calls.specs.Forms.{IsWellSaid}
 
 module _ {A B : Type 0} where
   pub none_first : (f : A → Option B) (xs : List A) → Each (λ x. f x ≡ None) xs → first_of (map f xs) ≡ None

@@ -9,7 +9,7 @@ use Rattle.adr_values.specs.Names.{name_fault}
 use Rattle.adr_model.specs.Member.{Each}
 use Rattle.adr_model.specs.Update.{Identifier, RowOf, Holds, Update, class_attr, name_attr, deleted_attr}
 use Rattle.adr_model.specs.Take.{is_birth}
-use Rattle.adr_law_steps.specs.Forms.{IsWellSaid, MayChange}
+use Rattle.adr_law_calls.specs.Forms.{IsWellSaid, MayChange}
 use Rattle.adr_law_calls.specs.MayWrites.{IsLive, IsHeldAlive}
 
 pub live_is_held : (rows : List Update) (o : Oid) (class : ℕ) → IsLive rows o class → IsHeldAlive rows o

@@ -25,7 +25,7 @@ use Rattle.adr_model.proofs.Keys.{winner_found, objects_tell}
 use Rattle.adr_model.proofs.Nodes.{IsNodeOf, is_node_of}
 use Rattle.adr_law_knowledge.proofs.Comparing.{keys_tell, same_as_itself, objects_same}
 use Rattle.adr_law_knowledge.proofs.Winners.{in_winners}
-use Rattle.adr_law_steps.proofs.More.{allowed_more}
+use Rattle.adr_law_calls.proofs.More.{allowed_more}
 use Rattle.adr_law_calls.specs.MayWrites.{IsLive}
 use Rattle.adr_law_calls.proofs.Nodes.{of_live_rows, node_is_live}
 

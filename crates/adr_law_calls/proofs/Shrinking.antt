@@ -8,7 +8,7 @@ use Rattle.adr_model.specs.Store.{Held, updates_of, is_row_of}
 use Rattle.adr_model.proofs.Members.{mapped_member}
 use Rattle.adr_law_knowledge.specs.Grows.{IsOutlived, Grows}
 use Rattle.adr_law_knowledge.proofs.Comparing.{supersedes_self}
-use Rattle.adr_law_steps.proofs.Rows.{updated, held_as, row_is_of}
+use Rattle.adr_law_calls.proofs.Rows.{updated, held_as, row_is_of}
 use Rattle.adr_law_calls.specs.Collectable.{IsCollectable}
 use Rattle.adr_law_calls.proofs.Removing.{without, row_of_tells, stands_or_goes, update_stood, removed_is_absent}
 

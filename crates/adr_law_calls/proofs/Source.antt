@@ -9,7 +9,7 @@ use Rattle.adr_model.specs.Member.{Member, Each}
 use Rattle.adr_model.specs.Update.{Update, RowOf, Said, Holds, class_attr, name_attr, deleted_attr}
 use Rattle.adr_model.specs.Reflects.{HoldsObject}
 use Rattle.adr_model.specs.Formed.{HasRow, IsNamed, KeepsSchema, IsObjectFormed, AreFormedRows}
-use Rattle.adr_law_steps.specs.Forms.{IsWellSaid}
+use Rattle.adr_law_calls.specs.Forms.{IsWellSaid}
 
 module _ (table : Table) (rows : List Update) (one : Each (λ u. Each (λ v. u.key ≡ v.key → u ≡ v) rows) rows) (formed : AreFormedRows table rows) where
   -- the row of a key says what some row of the key says

@@ -12,9 +12,9 @@ use Rattle.adr_model.specs.Formed.{AreRising}
 use Rattle.adr_model.specs.Write.{next_stamp, version_of, first_created}
 use Rattle.adr_model.proofs.Members.{found}
 use Rattle.adr_law_knowledge.proofs.Comparing.{keys_tell, same_where_equal, older_by_version, older_one_way}
-use Rattle.adr_law_steps.specs.Puts.{MayPut}
-use Rattle.adr_law_steps.proofs.Rows.{held_as}
-use Rattle.adr_law_steps.proofs.Rising.{one_of_key}
+use Rattle.adr_law_calls.specs.Puts.{MayPut}
+use Rattle.adr_law_calls.proofs.Rows.{held_as}
+use Rattle.adr_law_calls.proofs.Rising.{one_of_key}
 
 pub row_held_is : (rows : List Held) → AreRising rows → (key : Key) (x : Held) → Member x rows → x.update.key ≡ key → row_held rows key ≡ Some x
 row_held_is rows rising key x m e = found (λ (h : Held). same_key h.update.key key) rows x m (same_where_equal x.update.key key e)

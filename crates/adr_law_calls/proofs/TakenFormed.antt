@@ -17,7 +17,7 @@ use Rattle.adr_model.specs.Serve.{Reply}
 use Rattle.adr_model.specs.Take.{Taking, times_brought}
 use Rattle.adr_model.specs.Write.{object_limit, link_limit, links_in}
 use Rattle.adr_law_knowledge.proofs.Raised.{raised_up}
-use Rattle.adr_law_logs.proofs.Leaving.{each_mark}
+use Rattle.adr_law_calls.proofs.Leaving.{each_mark}
 use Rattle.adr_law_calls.specs.OnTheWay.{StaysFormed, Passes, taken_items, state_behind}
 use Rattle.adr_law_calls.proofs.Items.{objects_within, links_within}
 

@@ -21,11 +21,11 @@ use Rattle.adr_model.specs.Replica.{Book, log_of}
 use Rattle.adr_model.specs.Sound.{last_of, IsBounded, IsSoundMark, IsSoundLast, IsSoundState, IsSent}
 use Rattle.adr_law_knowledge.specs.Grows.{Grows}
 use Rattle.adr_law_knowledge.proofs.Knows.{grows_keeps, grows_trans, more_covered, carry_over}
-use Rattle.adr_law_logs.proofs.Past.{Tells}
-use Rattle.adr_law_logs.proofs.Moved.{mark_taken}
-use Rattle.adr_law_logs.proofs.Bounds.{rows_are_within}
+use Rattle.adr_law_calls.proofs.Past.{Tells}
+use Rattle.adr_law_calls.proofs.Moved.{mark_taken}
+use Rattle.adr_law_calls.proofs.Bounds.{rows_are_within}
 use Rattle.adr_law_calls.specs.OnTheWay.{IsTakeable, known_with, source_rows}
-use Rattle.adr_law_steps.proofs.Rows.{held_as}
+use Rattle.adr_law_calls.proofs.Rows.{held_as}
 use Rattle.adr_law_calls.proofs.Items.{ends, items_reflected}
 
 -- what a reply joins is a vector, and bounded

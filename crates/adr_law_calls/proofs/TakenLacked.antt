@@ -16,9 +16,9 @@ use Rattle.adr_law_calls.specs.OnTheWay.{IsTakeable, known_with, IsTakenSoFar, I
 use Rattle.adr_law_calls.proofs.Items.{starts, ends, on_the_way}
 use Rattle.adr_model.proofs.Members.{member_of_either}
 use Rattle.adr_law_knowledge.proofs.Lists.{no_members, alone_from}
-use Rattle.adr_law_steps.specs.Puts.{under}
-use Rattle.adr_law_steps.proofs.Rows.{updated, held_as}
-use Rattle.adr_law_logs.proofs.Units.{change_from}
+use Rattle.adr_law_calls.specs.Puts.{under}
+use Rattle.adr_law_calls.proofs.Rows.{updated, held_as}
+use Rattle.adr_law_calls.proofs.Units.{change_from}
 use Rattle.adr_law_calls.proofs.ItemPut.{taken_from}
 use Rattle.adr_law_calls.proofs.PutForms.{under_usn}
 use Rattle.adr_law_calls.proofs.ItemStep.{held_of_both}

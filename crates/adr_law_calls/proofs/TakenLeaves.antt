@@ -16,12 +16,12 @@ use Rattle.adr_model.specs.Replica.{Book, ToTake}
 use Rattle.adr_model.specs.Sound.{last_of, IsSoundBook, IsSoundState, IsSoundReply, IsSent, AreClassesKnown}
 use Rattle.adr_model.proofs.Members.{member_left}
 use Rattle.adr_law_knowledge.proofs.Knows.{covered_absent}
-use Rattle.adr_law_steps.specs.Puts.{AreClosed}
-use Rattle.adr_law_logs.specs.Later.{MayIssue}
-use Rattle.adr_law_logs.specs.Settling.{Leaves}
-use Rattle.adr_law_logs.proofs.Units.{change_from}
+use Rattle.adr_law_calls.specs.Puts.{AreClosed}
+use Rattle.adr_law_calls.specs.Later.{MayIssue}
+use Rattle.adr_law_calls.specs.Settling.{Leaves}
+use Rattle.adr_law_calls.proofs.Units.{change_from}
 use Rattle.adr_law_calls.specs.OnTheWay.{IsTakeable, IsTaken, IsTakenSoFar}
-use Rattle.adr_law_steps.proofs.Rows.{held_as, updated}
+use Rattle.adr_law_calls.proofs.Rows.{held_as, updated}
 use Rattle.adr_law_calls.proofs.Standings.{held_or_not}
 use Rattle.adr_law_calls.proofs.OnTheWay.{source_classes, purged_within}
 use Rattle.adr_law_calls.proofs.ItemRows.{in_source}

@@ -13,7 +13,7 @@ use Rattle.adr_model.specs.Store.{Held, updates_of, row_held, is_row_of, holds_o
 use Rattle.adr_model.specs.Take.{is_above}
 use Rattle.adr_model.proofs.Members.{one_passes, some_passes}
 use Rattle.adr_law_knowledge.proofs.Comparing.{keys_tell, same_where_equal, objects_same, older_one_way}
-use Rattle.adr_law_steps.proofs.Rows.{updated, held_as, row_is_of}
+use Rattle.adr_law_calls.proofs.Rows.{updated, held_as, row_is_of}
 
 -- ---- the row of a key
 

@@ -18,9 +18,9 @@ use Rattle.adr_model.proofs.Members.{member_left}
 use Rattle.adr_law_knowledge.proofs.Knows.{grows_keeps, more_covered}
 use Rattle.adr_law_knowledge.proofs.Raised.{raised_up, not_raised}
 use Rattle.adr_law_knowledge.proofs.Refusing.{answered}
-use Rattle.adr_law_logs.specs.Settling.{Leaves}
-use Rattle.adr_law_logs.proofs.Empty.{empty_is_formed}
-use Rattle.adr_law_steps.proofs.More.{rows_formed_more, classes_known_more}
+use Rattle.adr_law_calls.specs.Settling.{Leaves}
+use Rattle.adr_law_calls.proofs.Empty.{empty_is_formed}
+use Rattle.adr_law_calls.proofs.More.{rows_formed_more, classes_known_more}
 
 module _ (s : State) (formed : IsFormed s) where
   abbrev d : State

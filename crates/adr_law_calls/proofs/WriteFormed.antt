@@ -8,9 +8,9 @@ use Rattle.adr_model.specs.Store.{Held, State}
 use Rattle.adr_model.specs.Change.{Item, put, held_of, rows_after, after}
 use Rattle.adr_model.specs.Formed.{AreRising, IsFormedStore, IsFormed}
 use Rattle.adr_law_knowledge.proofs.Raised.{raised_is_vector, raised_up}
-use Rattle.adr_law_steps.specs.Puts.{under, ArePut}
-use Rattle.adr_law_steps.proofs.Putting.{are_put}
-use Rattle.adr_law_steps.proofs.Order.{puts_rise, puts_stay_alone, puts_stay_within}
+use Rattle.adr_law_calls.specs.Puts.{under, ArePut}
+use Rattle.adr_law_calls.proofs.Putting.{are_put}
+use Rattle.adr_law_calls.proofs.Order.{puts_rise, puts_stay_alone, puts_stay_within}
 use Rattle.adr_law_calls.specs.MayWrites.{MayWrite}
 use Rattle.adr_law_calls.proofs.Rooms.{cursors_within, objects_within_limit, links_within_limit}
 use Rattle.adr_law_calls.proofs.PutForms.{rows_stay_formed}

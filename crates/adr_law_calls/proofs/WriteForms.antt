@@ -12,14 +12,14 @@ use Rattle.adr_model.specs.Reflects.{Numbers, HoldsObject}
 use Rattle.adr_model.specs.Store.{Held, State, updates_of}
 use Rattle.adr_model.specs.Replica.{Book}
 use Rattle.adr_model.specs.Sound.{AreClassesKnown, IsSoundBook, IsSoundState}
-use Rattle.adr_law_logs.proofs.Frames.{born_before}
-use Rattle.adr_law_steps.specs.Puts.{ArePut, AreClosed}
+use Rattle.adr_law_calls.proofs.Frames.{born_before}
+use Rattle.adr_law_calls.specs.Puts.{ArePut, AreClosed}
 use Rattle.adr_law_calls.specs.KeepForms.{KeepForms}
-use Rattle.adr_law_steps.proofs.Putting.{objects_stay}
+use Rattle.adr_law_calls.proofs.Putting.{objects_stay}
 use Rattle.adr_law_calls.specs.MayWrites.{MayWrite}
-use Rattle.adr_law_steps.proofs.Formed.{classes_stay_known}
+use Rattle.adr_law_calls.proofs.Formed.{classes_stay_known}
 use Rattle.adr_law_calls.proofs.PutForms.{whence_update, rows_stay_closed}
-use Rattle.adr_law_steps.proofs.Rows.{no_link_row, same_link}
+use Rattle.adr_law_calls.proofs.Rows.{no_link_row, same_link}
 
 -- rows that a write may write keep the forms
 pub write_keeps_forms : (s : State) (unit : Named) (us : List Update) → MayWrite s unit us → KeepForms (numbered s.store.schema) (at s.store.vector) (updates_of s.store.rows) unit us

@@ -17,11 +17,11 @@ use Rattle.adr_model.proofs.Members.{member_left, member_right}
 use Rattle.adr_law_knowledge.proofs.Comparing.{supersedes_self}
 use Rattle.adr_law_knowledge.specs.Grows.{Grows}
 use Rattle.adr_law_knowledge.proofs.Knows.{grows_keeps, grows_trans, more_covered}
-use Rattle.adr_law_logs.proofs.Empty.{empty_is_formed}
-use Rattle.adr_law_logs.specs.Settling.{Leaves}
-use Rattle.adr_law_steps.specs.Puts.{held_at, ArePut}
-use Rattle.adr_law_steps.proofs.Rows.{updated}
-use Rattle.adr_law_steps.proofs.Putting.{puts_grow}
+use Rattle.adr_law_calls.proofs.Empty.{empty_is_formed}
+use Rattle.adr_law_calls.specs.Settling.{Leaves}
+use Rattle.adr_law_calls.specs.Puts.{held_at, ArePut}
+use Rattle.adr_law_calls.proofs.Rows.{updated}
+use Rattle.adr_law_calls.proofs.Putting.{puts_grow}
 use Rattle.adr_law_calls.specs.MayWrites.{MayWrite}
 use Rattle.adr_law_knowledge.proofs.Raised.{raised_up}
 use Rattle.adr_law_calls.proofs.PutForms.{whence_update}

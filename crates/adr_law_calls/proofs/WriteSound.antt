@@ -7,11 +7,11 @@ use Rattle.adr_model.specs.Given.{IsWellGiven}
 use Rattle.adr_model.specs.Formed.{IsFormed}
 use Rattle.adr_model.specs.Replica.{Book, ToWrite, issued_by}
 use Rattle.adr_model.specs.Sound.{IsSoundBook, IsSoundState}
-use Rattle.adr_law_logs.specs.Later.{MayIssue}
-use Rattle.adr_law_logs.specs.Settling.{Leaves}
+use Rattle.adr_law_calls.specs.Later.{MayIssue}
+use Rattle.adr_law_calls.specs.Settling.{Leaves}
 use Rattle.adr_law_calls.specs.MayWrites.{MayWrite, MayWriteInTurn}
 use Rattle.adr_law_knowledge.proofs.Refusing.{answered}
-use Rattle.adr_law_logs.proofs.Written.{items_are_own}
+use Rattle.adr_law_calls.proofs.Written.{items_are_own}
 use Rattle.adr_law_calls.proofs.InTurnSound.{in_turn_issue, in_turn_leave}
 use Rattle.adr_law_calls.proofs.Linked.{may_add_link, may_remove_link}
 use Rattle.adr_law_calls.proofs.Changed.{may_rename, may_delete, may_modify}

@@ -13,8 +13,8 @@ use Rattle.adr_model.specs.Formed.{AreFormedRows}
 use Rattle.adr_model.specs.Replica.{Book}
 use Rattle.adr_model.specs.Sound.{IsBirthOf, IsSoundBook, IsSoundState}
 use Rattle.adr_model.proofs.Members.{member_left, member_right}
-use Rattle.adr_law_steps.specs.Forms.{IsWellSaid}
-use Rattle.adr_law_steps.proofs.Rows.{object_of_row, no_object_row}
+use Rattle.adr_law_calls.specs.Forms.{IsWellSaid}
+use Rattle.adr_law_calls.proofs.Rows.{object_of_row, no_object_row}
 use Rattle.adr_law_calls.specs.MayWrites.{Changes, Comes, Fits, MayWrite}
 
 abbrev pub ends_of : Named → List Oid

@@ -6,7 +6,7 @@ use Rattle.adr_values.specs.Table.{Table, kind_at, is_forward}
 use Rattle.adr_model.specs.Member.{Each}
 use Rattle.adr_model.specs.Update.{Update, LinkOf, ends}
 use Rattle.adr_model.specs.Reflects.{Numbers, CoversBirth, HoldsObject, IsTombstoned}
-use Rattle.adr_law_steps.specs.Forms.{MayChange, MayCome}
+use Rattle.adr_law_calls.specs.Forms.{MayChange, MayCome}
 
 -- rows of one unit keep to the schema, and a link row has neither a dead end nor a lost one
 abbrev pub KeepForms : Table → Numbers → List Update → Named → List Update → Type 0

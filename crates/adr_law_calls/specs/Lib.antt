@@ -2,3 +2,16 @@ pub mod KeepForms
 pub mod OnTheWay
 pub mod MayWrites
 pub mod Collectable
+pub mod Puts
+pub mod Forms
+pub mod Units
+pub mod Logs
+pub mod Later
+pub mod Moved
+pub mod Settling
+pub mod Follow
+pub mod Touched
+pub mod Tested
+pub mod Taken
+pub mod SoFar
+pub mod Laws

@@ -16,8 +16,8 @@ use Rattle.adr_model.specs.Store.{State, updates_of}
 use Rattle.adr_model.specs.Change.{Item, Written, after}
 use Rattle.adr_model.specs.Formed.{HasRow}
 use Rattle.adr_model.specs.Write.{object_limit, link_limit, links_in, own_change}
-use Rattle.adr_law_steps.specs.Puts.{MayPut}
-use Rattle.adr_law_steps.specs.Forms.{MayChange, MayCome}
+use Rattle.adr_law_calls.specs.Puts.{MayPut}
+use Rattle.adr_law_calls.specs.Forms.{MayChange, MayCome}
 
 -- an object of this class is held and not dead
 pub record IsLive (rows : List Update) (o : Oid) (class : ℕ) : Type 0 where

@@ -18,7 +18,7 @@ use Rattle.adr_model.specs.Sound.{AreClassesKnown, IsSoundBook, IsSoundState, Is
 use Rattle.adr_model.specs.Take.{Taking, take_items, taken_change, same_mark, kept_mark, shown_by_last, mark_limit}
 use Rattle.adr_model.specs.Write.{object_limit, link_limit, usn_limit}
 use Rattle.adr_law_knowledge.specs.Grows.{Grows}
-use Rattle.adr_law_steps.specs.Puts.{AreClosed}
+use Rattle.adr_law_calls.specs.Puts.{AreClosed}
 
 -- what is asked of the rows and vectors that take a reply, be they a controller's or not: no limits, and no log of their own
 pub record IsSoundBase (book : Book) (s : Store) : Type 0 where

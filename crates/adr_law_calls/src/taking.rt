@@ -15,8 +15,8 @@ ghost use Rattle.adr_model.specs.Serve.{Reply};
 ghost use Rattle.adr_model.specs.Take.{take};
 ghost use Rattle.adr_model.specs.Replica.{Book, ToTake};
 ghost use Rattle.adr_model.specs.Sound.{last_of, IsSoundBook, IsSoundState, IsSoundReply, IsSent};
-ghost use Rattle.adr_law_logs.specs.Later.{MayIssue};
-ghost use Rattle.adr_law_logs.specs.Settling.{Leaves};
+ghost use Rattle.adr_law_calls.specs.Later.{MayIssue};
+ghost use Rattle.adr_law_calls.specs.Settling.{Leaves};
 
 /// A sound state that takes a sound reply: the change follows in its log and writes only what was
 /// issued, and leaves what a sound state needs.

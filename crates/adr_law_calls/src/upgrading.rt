@@ -7,7 +7,7 @@ ghost use Rattle.adr_model.specs.LocalLog.{Follows};
 ghost use Rattle.adr_model.specs.Upgrade.{upgrade};
 ghost use Rattle.adr_model.specs.Replica.{Book, ToUpgrade};
 ghost use Rattle.adr_model.specs.Sound.{last_of, IsSoundBook, IsSoundState};
-ghost use Rattle.adr_law_logs.specs.Settling.{Leaves};
+ghost use Rattle.adr_law_calls.specs.Settling.{Leaves};
 
 /// A sound state that changes over: the change follows in its log, and leaves what a sound state needs.
 #[tactic(none)]

@@ -7,8 +7,8 @@ ghost use Rattle.adr_model.specs.Write.{Write, write};
 ghost use Rattle.adr_model.specs.Given.{IsWellGiven};
 ghost use Rattle.adr_model.specs.Replica.{Book, ToWrite, issued_by};
 ghost use Rattle.adr_model.specs.Sound.{IsSoundBook, IsSoundState};
-ghost use Rattle.adr_law_logs.specs.Later.{MayIssue};
-ghost use Rattle.adr_law_logs.specs.Settling.{Leaves};
+ghost use Rattle.adr_law_calls.specs.Later.{MayIssue};
+ghost use Rattle.adr_law_calls.specs.Settling.{Leaves};
 
 /// A sound state that writes what a client can send: the change issues what it may, and leaves what a
 /// sound state needs.

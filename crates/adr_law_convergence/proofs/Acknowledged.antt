@@ -2,9 +2,9 @@
 use Rattle.std.proofs.Common.{◌≡◌, ◌≢◌, inl, ℕ, List, [], ◌∷◌, ◌++◌, ◌+◌, arith, Bool, cond, Option, Some, Result, Ok, Err, refl, sym, ap, subst, fold, map}
 use Rattle.adr_values.specs.Assignments.{Given}
 use Rattle.adr_values.specs.declared.content.Content.TheVariants.{Values}
-use Rattle.adr_event.specs.declared.answer.Answer.{Answer}
-use Rattle.adr_event.specs.declared.event.Event.{Event}
-use Rattle.adr_event.specs.declared.event.Event.TheVariants as events
+use Rattle.adr_call.specs.declared.answer.Answer.{Answer}
+use Rattle.adr_call.specs.declared.event.Event.{Event}
+use Rattle.adr_call.specs.declared.event.Event.TheVariants as events
 use Rattle.adr_call.specs.declared.outcome.Outcome.{Outcome}
 use Rattle.adr_call.specs.declared.outcome.Outcome.TheVariants as outcomes
 use Rattle.adr_call.specs.declared.refusal.WriteRefusal.{WriteRefusal}
@@ -29,7 +29,7 @@ use Rattle.adr_model.specs.Cycles.{reply_limit, pull_version}
 use Rattle.adr_model.specs.Step.{ClientWrite, client_write, write_of, step}
 use Rattle.adr_model.specs.Convergence.{IsIssuedItem, IsAcknowledged, AcknowledgedIsIssued}
 use Rattle.adr_model.proofs.Members.{member_right, member_flat}
-use Rattle.adr_law_logs.proofs.Written.{items_are_own, items_take_usns}
+use Rattle.adr_law_calls.proofs.Written.{items_are_own, items_take_usns}
 use Rattle.adr_law_knowledge.proofs.Refusing.{answered}
 use Rattle.adr_law_convergence.proofs.Found.{same_name_tests, still_there}
 use Rattle.adr_law_convergence.proofs.Refusals.{is_plain, IsPlain, write_refused_plainly}

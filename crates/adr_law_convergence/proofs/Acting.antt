@@ -31,7 +31,7 @@ use Rattle.adr_model.specs.Upgrade.{upgraded, upgrade_refusal, upgrade}
 use Rattle.adr_law_convergence.proofs.Traced.{changed_traced, brought_told}
 use Rattle.adr_law_calls.specs.OnTheWay.{change_taken}
 use Rattle.adr_law_calls.proofs.Passed.{passed}
-use Rattle.adr_law_logs.proofs.Empty.{empty_is_formed}
+use Rattle.adr_law_calls.proofs.Empty.{empty_is_formed}
 
 -- a device changes nothing of what is sound
 on_device_sound : (book : Book) (r : Replica) (device : Device) → IsSoundReplica book r → IsSoundReplica book (record r { device = device })

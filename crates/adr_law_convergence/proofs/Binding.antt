@@ -16,9 +16,9 @@ use Rattle.adr_model.specs.Collect.{backup}
 use Rattle.adr_model.specs.Replica.{Replica}
 use Rattle.adr_model.specs.World.{LastReply, Name, World, Snapshot, Sent, noted, bound, nothing, of_controller, asks, after_serve, served, serves_request, backed_up}
 use Rattle.adr_model.specs.Sound.{IsSoundRequest, IsSoundReply, IsSoundStore, IsGiven, AreMarksGiven, IsTraced, IsTracedReply, IsSoundWorld}
-use Rattle.adr_law_logs.proofs.Tables.{each_found}
-use Rattle.adr_law_logs.proofs.Asked.{asked_is_sound}
-use Rattle.adr_law_logs.proofs.Granted.{served_is_sound, no_rollback}
+use Rattle.adr_law_calls.proofs.Tables.{each_found}
+use Rattle.adr_law_calls.proofs.Asked.{asked_is_sound}
+use Rattle.adr_law_calls.proofs.GrantedSoundly.{served_is_sound, no_rollback}
 use Rattle.adr_model.proofs.Members.{member_left}
 use Rattle.adr_law_knowledge.proofs.Refusing.{answered}
 use Rattle.adr_law_convergence.proofs.Beside.{still_traced, reply_still_traced, beside_sound}

@@ -10,10 +10,10 @@ use Rattle.adr_model.specs.Collect.{deaths_to_collect, collection, collect_refus
 use Rattle.adr_model.specs.Replica.{Call, ToWrite, ToTake, ToCollect, ToUpgrade, ToQuarantine, change_in, change_of, Pending, issued_by, Replica, Book}
 use Rattle.adr_model.specs.Sound.{last_of, IsSoundBook, IsSoundState, IsSoundCall}
 use Rattle.adr_law_knowledge.proofs.Refusing.{answered}
-use Rattle.adr_law_logs.specs.Later.{AreIssuedBy, MayIssue}
-use Rattle.adr_law_logs.specs.Settling.{Leaves, MaySettle}
-use Rattle.adr_law_logs.proofs.Leaving.{sound_state_is_left}
-use Rattle.adr_law_logs.proofs.Written.{write_may_follow}
+use Rattle.adr_law_calls.specs.Later.{AreIssuedBy, MayIssue}
+use Rattle.adr_law_calls.specs.Settling.{Leaves, MaySettle}
+use Rattle.adr_law_calls.proofs.Leaving.{sound_state_is_left}
+use Rattle.adr_law_calls.proofs.Written.{write_may_follow}
 use Rattle.adr_law_calls.proofs.CollectionLeaves.{collection_leaves}
 use Rattle.adr_law_calls.proofs.WriteSound.{write_leaves_sound}
 use Rattle.adr_model.specs.Upgrade.{upgraded, upgrade_refusal, upgrade}

@@ -13,11 +13,11 @@ use Rattle.adr_model.specs.Step.{gives}
 use Rattle.adr_model.specs.Sound.{IsSoundBook, IsSoundStore, IsSoundState, IsTraced, IsSoundWorld}
 use Rattle.adr_model.specs.Convergence.{IsNewName, IsNewDsa, IsNewInv}
 use Rattle.adr_model.proofs.Members.{member_left, member_right}
-use Rattle.adr_law_logs.specs.Later.{IsLater}
+use Rattle.adr_law_calls.specs.Later.{IsLater}
 use Rattle.adr_model.specs.LocalLog.{first_log}
-use Rattle.adr_law_logs.proofs.Empty.{new_is_sound}
-use Rattle.adr_law_logs.proofs.Woken.{adopted_is_woken, adopted_is_sound}
-use Rattle.adr_law_logs.proofs.Tables.{entry_other}
+use Rattle.adr_law_calls.proofs.Empty.{new_is_sound}
+use Rattle.adr_law_calls.proofs.Woken.{adopted_is_woken, adopted_is_sound}
+use Rattle.adr_law_calls.proofs.Tables.{entry_other}
 use Rattle.adr_call.specs.declared.outcome.Outcome.TheVariants as outcomes
 use Rattle.adr_law_convergence.proofs.Beside.{beside_sound, still_given, still_traced, reply_still_traced}
 use Rattle.adr_law_convergence.proofs.Reached.{within_case}

@@ -4,7 +4,7 @@ use Rattle.std.specs.Prelude.{codes, nat_lt}
 use Rattle.std.specs.Str.{bytes_eq}
 use Rattle.adr_values.specs.Vector.{Cursors, at, joined}
 use Rattle.adr_values.proofs.Joining.{at-joined, raised_elsewhere}
-use Rattle.adr_event.specs.declared.answer.Answer.{Answer}
+use Rattle.adr_call.specs.declared.answer.Answer.{Answer}
 use Rattle.adr_call.specs.declared.outcome.Outcome.{Outcome}
 use Rattle.adr_call.specs.declared.outcome.Outcome.TheVariants as outcomes
 use Rattle.adr_values.specs.declared.mark.Mark.{Mark}
@@ -20,7 +20,7 @@ use Rattle.adr_model.specs.Cycles.{Pulled, and_then, pulls, reply_limit}
 use Rattle.adr_model.specs.Sound.{IsSoundState, IsSoundWorld}
 use Rattle.adr_model.specs.Convergence.{units_beyond, replies_taken, IsRefused, IsReadWhole, HasTakenAll, AreUnlimited, CycleEnds}
 use Rattle.adr_model.proofs.Members.{found, member_right}
-use Rattle.adr_law_steps.proofs.Rows.{held_as}
+use Rattle.adr_law_calls.proofs.Rows.{held_as}
 use Rattle.adr_law_convergence.proofs.Found.{replica_found, in_place, still_there, same_name, same_name_tests}
 use Rattle.adr_law_convergence.proofs.Cycling.{Goes, IsLike, reply, change, next, behind, taking, told, Takes, MeetsLimit, took, taken_or_not, still_unplanned, next_found, server, server_found, behind_sound, left, idle, gained, server_like, goes_on, keeps, kept, kept_as, nearer_end, ended, one_of}
 

@@ -1,6 +1,6 @@
 -- What every run comes to, and what of it was acknowledged on the way.
 use Rattle.std.proofs.Common.{◌≡◌, inl, inr, ℕ, List, [], ◌∷◌, ◌++◌, Bool, true, false, refl, sym, ◌∙◌, subst}
-use Rattle.adr_event.specs.declared.event.Event.{Event}
+use Rattle.adr_call.specs.declared.event.Event.{Event}
 use Rattle.adr_model.specs.Change.{Written}
 use Rattle.adr_model.specs.Write.{items_written}
 use Rattle.adr_model.specs.World.{World, empty_world}

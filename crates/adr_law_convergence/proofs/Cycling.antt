@@ -7,7 +7,7 @@ use Rattle.std.specs.Str.{bytes_eq}
 use Rattle.adr_values.specs.Vector.{Cursors, at, at_most, joined}
 use Rattle.adr_values.proofs.Comparing.{everywhere_from_at_most, at_most_from_everywhere}
 use Rattle.adr_values.proofs.Joining.{at-raised, at-joined}
-use Rattle.adr_event.specs.declared.answer.Answer.{Answer}
+use Rattle.adr_call.specs.declared.answer.Answer.{Answer}
 use Rattle.adr_call.specs.declared.outcome.Outcome.{Outcome}
 use Rattle.adr_call.specs.declared.outcome.Outcome.TheVariants as outcomes
 use Rattle.adr_call.specs.declared.refusal.TakeRefusal.{TakeRefusal}
@@ -30,7 +30,7 @@ use Rattle.adr_model.specs.World.{Name, World, Gone, answer, replica_at, with_re
 use Rattle.adr_model.specs.Cycles.{Pulled, first_told, pull_delivered, pull_served, pull_asked, pull, pull_version}
 use Rattle.adr_model.specs.Sound.{last_of, IsSoundState, IsSoundReply, IsSent, IsSoundWorld}
 use Rattle.adr_model.specs.Convergence.{units_beyond, IsRefused}
-use Rattle.adr_law_logs.specs.Settling.{Leaves}
+use Rattle.adr_law_calls.specs.Settling.{Leaves}
 use Rattle.adr_law_calls.proofs.TakenLeaves.{taken_leaves}
 use Rattle.adr_law_calls.proofs.TakenLacked.{taken_idle, taken_lacked}
 use Rattle.adr_law_convergence.proofs.Found.{same_name, same_name_tests, replica_found}

@@ -4,7 +4,7 @@ use Rattle.adr_model.specs.Member.{Member}
 use Rattle.adr_model.specs.World.{empty_world}
 use Rattle.adr_model.specs.Sound.{IsSoundBook, AreIdentifiersSound, IsSoundWorld, IsOrderlyWorld}
 use Rattle.adr_model.specs.Convergence.{BeginsSound}
-use Rattle.adr_law_logs.proofs.Begun.{nothing_stood}
+use Rattle.adr_law_calls.proofs.Beginning.{nothing_stood}
 
 book_is_sound : IsSoundBook empty_world.book
 book_is_sound = record {

@@ -1,8 +1,8 @@
 -- What was issued stays issued, whatever line comes; a world that isn't clean stays so, and only a database that is put back makes one unclean.
 use Rattle.std.proofs.Common.{◌≡◌, ℕ, List, [], ◌∷◌, ◌++◌, Bool, true, false, Option, Some, None, Result, Ok, Err, refl, ◌∙◌, fold}
 use Rattle.adr_call.specs.declared.outcome.Outcome.TheVariants as outcomes
-use Rattle.adr_event.specs.declared.event.Event.{Event}
-use Rattle.adr_event.specs.declared.event.Event.TheVariants as events
+use Rattle.adr_call.specs.declared.event.Event.{Event}
+use Rattle.adr_call.specs.declared.event.Event.TheVariants as events
 use Rattle.adr_call.specs.declared.refusal.AdoptRefusal.{AdoptRefusal}
 use Rattle.adr_model.specs.Lengths.{new_log, area_fits}
 use Rattle.adr_model.specs.Member.{Member, Each}

@@ -35,3 +35,16 @@ pub mod CoveredEvents
 pub mod RefusalsNone
 pub mod Acknowledged
 pub mod Converging
+pub mod Names
+pub mod Spreading
+pub mod Hearing
+pub mod Knowing
+pub mod Fine
+pub mod Wholes
+pub mod Runs
+pub mod Vectors
+pub mod Directories
+pub mod Rounds
+pub mod Alike
+pub mod Telling
+pub mod Together

@@ -1,7 +1,7 @@
 -- Every world on the way of a line of a run is again that of a run.
 use Rattle.std.proofs.Common.{◌≡◌, List, [], ◌∷◌, Bool, true, false, refl}
-use Rattle.adr_event.specs.declared.event.Event.{Event}
-use Rattle.adr_event.specs.declared.event.Event.TheVariants as events
+use Rattle.adr_call.specs.declared.event.Event.{Event}
+use Rattle.adr_call.specs.declared.event.Event.TheVariants as events
 use Rattle.adr_model.specs.World.{World, empty_world}
 use Rattle.adr_model.specs.Cycles.{reply_limit}
 use Rattle.adr_model.specs.Step.{step, after_lines}

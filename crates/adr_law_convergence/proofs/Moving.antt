@@ -7,10 +7,10 @@ use Rattle.adr_model.specs.LocalLog.{no_log}
 use Rattle.adr_disk.specs.declared.memory.Mishap.TheVariants.{Fails, Stops}
 use Rattle.adr_model.specs.Replica.{Pending, change_of, Standing, Up, Down, Failed, Replica, Book, log_of, with_change, recorded, Move, Begin, Settle, Forget, moved, Went, Passed, Met, moves_of_commit, moves_of_start, standing_after}
 use Rattle.adr_model.specs.Sound.{IsSoundBook, IsSoundState, IsSoundCall, IsPending, IsSettled, IsSoundReplica}
-use Rattle.adr_law_logs.specs.Later.{IsLater}
-use Rattle.adr_law_logs.proofs.Frames.{later_itself}
-use Rattle.adr_law_logs.proofs.Recorded.{recorded_later, recorded_sound}
-use Rattle.adr_law_logs.proofs.Tables.{entry_other}
+use Rattle.adr_law_calls.specs.Later.{IsLater}
+use Rattle.adr_law_calls.proofs.Frames.{later_itself}
+use Rattle.adr_law_calls.proofs.Recorded.{recorded_later, recorded_sound}
+use Rattle.adr_law_calls.proofs.Tables.{entry_other}
 use Rattle.adr_law_convergence.proofs.Replacing.{OnlyLog}
 use Rattle.adr_law_convergence.proofs.Calls.{Settles, call_settles, may_settle}
 

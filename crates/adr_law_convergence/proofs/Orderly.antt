@@ -1,8 +1,8 @@
 -- What holds always: names and identifiers are those of lines, what is held is formed, replies are spelled, and nothing is bound to a name twice.
 use Rattle.std.proofs.Common.{◌≡◌, ◌≢◌, ◌⊎◌, inl, inr, ℕ, List, [], ◌∷◌, ◌++◌, Bool, true, false, Option, Some, None, Result, Ok, Err, refl, sym, ap, ◌∙◌, subst, fold, if◌then◌else◌, arith}
 use Rattle.adr_call.specs.declared.outcome.Outcome.TheVariants as outcomes
-use Rattle.adr_event.specs.declared.event.Event.{Event}
-use Rattle.adr_event.specs.declared.event.Event.TheVariants as events
+use Rattle.adr_call.specs.declared.event.Event.{Event}
+use Rattle.adr_call.specs.declared.event.Event.TheVariants as events
 use Rattle.adr_call.specs.declared.refusal.AdoptRefusal.{AdoptRefusal}
 use Rattle.adr_call.specs.declared.refusal.ServeRefusal.{ServeRefusal}
 use Rattle.adr_call.specs.declared.refusal.ServeRefusal.TheVariants as serves
@@ -23,8 +23,8 @@ use Rattle.adr_model.specs.Step.{gives, step, stepped, revival}
 use Rattle.adr_model.specs.Sound.{IsOrderlyStore, IsOrderlyState, IsOrderlyReplica, IsOrderlySnapshot, AreBoundOnce, IsOrderlyWorld}
 use Rattle.adr_model.specs.Convergence.{IsNewName, IsUnbound, MayHappen}
 use Rattle.adr_model.proofs.Members.{member_left, member_right, member_of_either}
-use Rattle.adr_law_formed.proofs.Served.{served_is_spelled}
-use Rattle.adr_law_formed.proofs.Still.{new_is_formed}
+use Rattle.adr_law_calls.proofs.Served.{served_is_spelled}
+use Rattle.adr_law_calls.proofs.Still.{new_is_formed}
 use Rattle.adr_law_convergence.proofs.Found.{bound_member, each_bound, in_place}
 use Rattle.adr_law_convergence.proofs.Reached.{made_case, reached_case, fits_case}
 use Rattle.adr_law_convergence.proofs.Binding.{only_made}

@@ -19,13 +19,13 @@ use Rattle.adr_disk.specs.declared.memory.Plan.{Plan}
 use Rattle.adr_model.specs.Replica.{Call, ToWrite, ToTake, ToCollect, ToUpgrade, ToQuarantine, change_of, Pending, Standing, Up, Down, Failed, Device, Replica, on_disk, Book, Move, Begin, Settle, Forget, moved, Went, Passed, Met, moves_of_commit, moves_of_start, standing_after, plan_after, torn_log, logs_of_start, commit_goes, device_after_commit, device_settled}
 use Rattle.adr_model.specs.World.{Name, World}
 use Rattle.adr_model.specs.Sound.{IsOrderlyStore, IsOrderlyState, IsOrderlyLog, IsSettled, IsOrderlyReplica}
-use Rattle.adr_law_logs.proofs.Woken.{adopted_is_woken}
-use Rattle.adr_law_formed.specs.Follow.{CanFollow}
-use Rattle.adr_law_formed.proofs.EachWrite.{write_follows}
-use Rattle.adr_law_formed.proofs.TakenFollow.{taken_follows}
-use Rattle.adr_law_formed.proofs.Collected.{collected_follows}
-use Rattle.adr_law_formed.proofs.Still.{quarantine_follows, upgrade_follows, adopted_is_formed}
-use Rattle.adr_law_formed.proofs.Served.{still_say}
+use Rattle.adr_law_calls.proofs.Woken.{adopted_is_woken}
+use Rattle.adr_law_calls.specs.Follow.{CanFollow}
+use Rattle.adr_law_calls.proofs.EachWrite.{write_follows}
+use Rattle.adr_law_calls.proofs.TakenFollow.{taken_follows}
+use Rattle.adr_law_calls.proofs.Collected.{collected_follows}
+use Rattle.adr_law_calls.proofs.Still.{quarantine_follows, upgrade_follows, adopted_is_formed}
+use Rattle.adr_law_calls.proofs.Served.{still_say}
 use Rattle.adr_law_convergence.proofs.Calls.{in_change}
 use Rattle.adr_law_convergence.proofs.OrderlyLogs.{LogsLead, commit_leads}
 

@@ -11,8 +11,8 @@ use Rattle.adr_model.specs.Store.{Held, State}
 use Rattle.adr_model.specs.Change.{Item}
 use Rattle.adr_model.specs.Serve.{Request, last_local, units_of, is_above_mark, is_unseen, sendable, candidates, item_length, byte_limit, first_items, reply_of, begins_at, reply_to}
 use Rattle.adr_model.proofs.Members.{of_filter, member_left, member_right}
-use Rattle.adr_law_logs.proofs.Ground.{answering, first_front}
-use Rattle.adr_law_logs.proofs.Candidates.{Rises, candidates_rise, candidate_from, unit_there}
+use Rattle.adr_law_calls.proofs.Ground.{answering, first_front}
+use Rattle.adr_law_calls.proofs.Candidates.{Rises, candidates_rise, candidate_from, unit_there}
 
 -- ---- counting
 

@@ -35,11 +35,11 @@ use Rattle.adr_model.specs.Sound.{IsSoundBook, IsSoundState, IsSoundRequest, IsS
 use Rattle.adr_model.proofs.Members.{of_filter}
 use Rattle.adr_law_knowledge.proofs.Refusing.{none_comes, unmet, where_it_is, all_is, tested_is, all_covered}
 use Rattle.adr_law_knowledge.proofs.View.{tested_where_covered}
-use Rattle.adr_law_steps.proofs.Rows.{updated}
-use Rattle.adr_law_logs.proofs.Asked.{asked_is_sound}
-use Rattle.adr_law_logs.proofs.Granted.{served_is_sound, shown_within}
-use Rattle.adr_law_logs.proofs.Served.{item_is, row_is}
-use Rattle.adr_law_logs.proofs.Tables.{entry_there, entry_itself}
+use Rattle.adr_law_calls.proofs.Rows.{updated}
+use Rattle.adr_law_calls.proofs.Asked.{asked_is_sound}
+use Rattle.adr_law_calls.proofs.GrantedSoundly.{served_is_sound, shown_within}
+use Rattle.adr_law_calls.proofs.ServedSoundly.{item_is, row_is}
+use Rattle.adr_law_calls.proofs.Tables.{entry_there, entry_itself}
 use Rattle.adr_law_calls.proofs.Granted.{base_of, kept_is_sound}
 use Rattle.adr_law_calls.proofs.Refused.{items_are_whole}
 use Rattle.adr_law_convergence.proofs.Progress.{beyond, progress}

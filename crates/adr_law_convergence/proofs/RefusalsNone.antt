@@ -3,10 +3,10 @@ use Rattle.std.proofs.Common.{◌≡◌, ◌≢◌, inl, List, refl, ap, ◌∙�
 use Rattle.std.proofs.lemmas.Bool.{or_parts, not-true}
 use Rattle.adr_values.specs.declared.stamp.Oid.{Oid}
 use Rattle.adr_values.specs.Vector.{at_most}
-use Rattle.adr_event.specs.declared.answer.Answer.{Answer}
+use Rattle.adr_call.specs.declared.answer.Answer.{Answer}
 use Rattle.adr_call.specs.declared.outcome.Outcome.{Outcome}
 use Rattle.adr_call.specs.declared.outcome.Outcome.TheVariants as outcomes
-use Rattle.adr_event.specs.declared.event.Event.{Event}
+use Rattle.adr_call.specs.declared.event.Event.{Event}
 use Rattle.adr_call.specs.declared.refusal.ItemFault.{ItemFault}
 use Rattle.adr_call.specs.declared.refusal.ServeRefusal.{ServeRefusal}
 use Rattle.adr_call.specs.declared.refusal.ServeRefusal.TheVariants as serves
@@ -20,7 +20,7 @@ use Rattle.adr_model.specs.World.{Name, World, bound_at, asks, serves_request, d
 use Rattle.adr_model.specs.Step.{step}
 use Rattle.adr_model.specs.Sound.{IsSoundRequest, IsSoundReply, IsSoundWorld}
 use Rattle.adr_model.specs.Convergence.{MayHappen, IsRefused, IsPurgedCovered, NoDamage, NeverTooOld}
-use Rattle.adr_law_logs.proofs.Granted.{no_rollback}
+use Rattle.adr_law_calls.proofs.GrantedSoundly.{no_rollback}
 use Rattle.adr_law_calls.proofs.Refused.{no_rollback as reply_shows_no_rollback, no_broken_item, no_incomplete_item}
 use Rattle.adr_law_convergence.proofs.Found.{bound_member}
 use Rattle.adr_law_convergence.proofs.Refusals.{number, refused_by_number, is_grave, IsPlain}

@@ -1,11 +1,11 @@
 -- All lines but writes, messages that come and pulls answer plainly.
 use Rattle.std.proofs.Common.{◌≡◌, inl, inr, sym, subst, ℕ, List, [], ◌∷◌, ◌++◌, Bool, true, false, Option, Some, None, Result, Ok, Err, refl, length, if◌then◌else◌, codes, ap}
-use Rattle.adr_event.specs.declared.answer.Answer.{Answer}
+use Rattle.adr_call.specs.declared.answer.Answer.{Answer}
 use Rattle.adr_call.specs.declared.outcome.Outcome.{Outcome}
 use Rattle.adr_call.specs.declared.outcome.Outcome.TheVariants as outcomes
-use Rattle.adr_event.specs.declared.event.Event.{Event}
-use Rattle.adr_event.specs.declared.event.Event.TheVariants as events
-use Rattle.adr_event.specs.Verbs.{verb_of_report, verb_of_write, word_of}
+use Rattle.adr_call.specs.declared.event.Event.{Event}
+use Rattle.adr_call.specs.declared.event.Event.TheVariants as events
+use Rattle.adr_call.specs.Verbs.{verb_of_report, verb_of_write, word_of}
 use Rattle.adr_call.specs.declared.report.Report.{Report}
 use Rattle.adr_call.specs.declared.refusal.CollectRefusal.{CollectRefusal}
 use Rattle.adr_call.specs.declared.refusal.AdoptRefusal.{AdoptRefusal}

@@ -6,7 +6,7 @@ use Rattle.adr_call.specs.declared.refusal.ServeRefusal.TheVariants.{RolledBack,
 use Rattle.adr_model.specs.Store.{State}
 use Rattle.adr_model.specs.Serve.{Request, shown_by, serve}
 use Rattle.adr_law_knowledge.proofs.Refusing.{tested_is, none_is, all_covered}
-use Rattle.adr_law_logs.proofs.Granted.{serve_refusal_is}
+use Rattle.adr_law_calls.proofs.GrantedSoundly.{serve_refusal_is}
 
 abbrev pub is_for_age : ServeRefusal → Bool
 is_for_age (TooOld inv purged has) = true

@@ -8,9 +8,9 @@ use Rattle.adr_model.specs.Replica.{Replica, Book, log_of}
 use Rattle.adr_model.specs.World.{World, with_replica}
 use Rattle.adr_model.specs.Sound.{IsSoundBook, IsSoundReplica, IsTraced, AreIdentifiersSound, IsSoundWorld}
 use Rattle.adr_model.proofs.Members.{member_of_either}
-use Rattle.adr_law_logs.specs.Later.{IsLater}
-use Rattle.adr_law_logs.proofs.Frames.{store_later, request_later}
-use Rattle.adr_law_logs.proofs.Replies.{reply_later, replica_later}
+use Rattle.adr_law_calls.specs.Later.{IsLater}
+use Rattle.adr_law_calls.proofs.Frames.{store_later, request_later}
+use Rattle.adr_law_calls.proofs.Replies.{reply_later, replica_later}
 use Rattle.adr_law_convergence.proofs.Found.{in_place}
 
 -- the book and a controller that may stand in a world next: the book is later and sound, of the logs none changed but the

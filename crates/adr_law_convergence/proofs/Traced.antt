@@ -14,8 +14,8 @@ use Rattle.adr_model.specs.World.{LastReply, World, noted}
 use Rattle.adr_model.specs.Sound.{IsGiven, WasTold, WereTold, IsTraced}
 use Rattle.adr_model.proofs.Members.{member_left, member_right, of_filter}
 use Rattle.adr_law_knowledge.proofs.Raised.{raised_up}
-use Rattle.adr_law_logs.proofs.Joined.{raised_from, joined_from}
-use Rattle.adr_law_logs.proofs.Leaving.{each_mark}
+use Rattle.adr_law_calls.proofs.Joined.{raised_from, joined_from}
+use Rattle.adr_law_calls.proofs.Leaving.{each_mark}
 use Rattle.adr_model.specs.Convergence.{TimesAreTrue}
 
 -- a time that was told is so where the vector has grown

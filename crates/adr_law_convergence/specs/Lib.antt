@@ -1,1 +1,2 @@
 pub mod CutShort
+pub mod Rounds

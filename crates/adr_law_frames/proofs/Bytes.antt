@@ -20,7 +20,7 @@ use Rattle.adr_model.specs.Change.{Item}
 use Rattle.adr_model.specs.Serve.{content_length, item_length}
 use Rattle.adr_model.proofs.Keys.{keys_total}
 use Rattle.adr_law_knowledge.specs.Rises.{Rises}
-use Rattle.adr_law_steps.proofs.Rows.{held_as, link_of_unit}
+use Rattle.adr_law_calls.proofs.Rows.{held_as, link_of_unit}
 use Rattle.adr_image.specs.Changes.{unit_bytes, update_bytes}
 use Rattle.adr_image.specs.Stored.{IsSpelledRow}
 use Rattle.adr_image.specs.Written.{told}

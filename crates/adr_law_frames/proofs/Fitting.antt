@@ -19,7 +19,7 @@ use Rattle.adr_model.specs.Spelled.{IsSaidOfKey, SayOfTheirKeys}
 use Rattle.adr_model.specs.Store.{State, updates_of}
 use Rattle.adr_model.specs.Update.{Key, RowOf, LinkOf, Said, Holds, IsPresent, Update}
 use Rattle.adr_law_knowledge.proofs.Refusing.{answered}
-use Rattle.adr_law_steps.proofs.Rows.{held_as}
+use Rattle.adr_law_calls.proofs.Rows.{held_as}
 use Rattle.adr_image.specs.Stored.{IsSpelledRow}
 use Rattle.adr_records.specs.BodyLaws.{content_of_attr}
 use Rattle.adr_records.specs.Logged.{IsLogged}

@@ -13,9 +13,9 @@ use Rattle.adr_model.specs.Serve.{is_above_mark, is_unseen, sendable, item_of, c
 use Rattle.adr_model.proofs.Members.{of_filter}
 use Rattle.adr_law_knowledge.specs.Rises.{Rises}
 use Rattle.adr_law_knowledge.proofs.Counting.{filtered_rise, rises_from}
-use Rattle.adr_law_steps.proofs.Rows.{held_as, updated}
-use Rattle.adr_law_steps.proofs.Locals.{units_tell}
-use Rattle.adr_law_logs.proofs.Candidates.{candidate_from, row_in_item}
+use Rattle.adr_law_calls.proofs.Rows.{held_as, updated}
+use Rattle.adr_law_calls.proofs.Locals.{units_tell}
+use Rattle.adr_law_calls.proofs.Candidates.{candidate_from, row_in_item}
 
 -- an item has a row; its rows are of its unit, are held, and rise by their keys
 pub record IsOffered (rows : List Held) (i : Item) : Type 0 where

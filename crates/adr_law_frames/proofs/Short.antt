@@ -28,7 +28,7 @@ use Rattle.adr_model.proofs.Keys.{keys_total}
 use Rattle.adr_model.proofs.Members.{member_mapped}
 use Rattle.adr_law_knowledge.specs.Rises.{Rises}
 use Rattle.adr_law_knowledge.proofs.Counting.{one_of_each}
-use Rattle.adr_law_steps.proofs.Rows.{row_of_unit}
+use Rattle.adr_law_calls.proofs.Rows.{row_of_unit}
 use Rattle.adr_law_calls.proofs.Values.{place_of}
 use Rattle.adr_law_frames.proofs.Offered.{IsOffered, keys_rise}
 use Rattle.adr_law_frames.proofs.Rooms.{HaveRoom, all_rooms, attr_of, attribute_limit, class_room, death_room, kind_below, name_room, plain_room, room, rows_within, values_fit}

@@ -2,8 +2,8 @@
 use Rattle.std.proofs.Common.{◌≡◌, ◌∙◌, List, [], ◌∷◌, ◌++◌, true, inl, inr, ap, subst, codes, if◌then◌else◌}
 use Rattle.adr_call.specs.declared.outcome.Outcome.TheVariants as outcomes
 use Rattle.adr_call.specs.declared.report.Report.TheVariants.{Directory}
-use Rattle.adr_event.specs.declared.event.Event.TheVariants as events
-use Rattle.adr_event.specs.declared.event.Event.{Event}
+use Rattle.adr_call.specs.declared.event.Event.TheVariants as events
+use Rattle.adr_call.specs.declared.event.Event.{Event}
 use Rattle.adr_model.specs.Member.{Member}
 use Rattle.adr_model.specs.Directory.{directory}
 use Rattle.adr_model.specs.Store.{Store, updates_of}
@@ -18,7 +18,7 @@ use Rattle.adr_law_convergence.proofs.Lines.{runs_are_sound}
 use Rattle.adr_law_convergence.proofs.Converging.{runs_converge, runs_stay_clean, acknowledged_stays_in_view}
 use Rattle.adr_law_convergence.proofs.RefusalsNone.{never_too_old, no_damage}
 use Rattle.adr_law_convergence.proofs.CoveredEvents.{stays_covered}
-use Rattle.adr_law_rounds.proofs.Together.{runs_come_together}
+use Rattle.adr_law_convergence.proofs.Together.{runs_come_together}
 use Rattle.adr_law_headline.specs.Headline.{Headline}
 
 -- the first lines of those that may happen may happen

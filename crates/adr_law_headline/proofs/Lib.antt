@@ -10,3 +10,6 @@ pub mod FormedCalls
 pub mod FormedRuns
 pub mod PrintableRuns
 pub mod Texts
+pub mod RisingShown
+pub mod ShownExportable
+pub mod ExportableRuns

@@ -19,13 +19,13 @@ use Rattle.adr_model.specs.Take.{take}
 use Rattle.adr_model.specs.Collect.{deaths_to_collect, collection, collect_refusal, collect, adopt, quarantine}
 use Rattle.adr_model.proofs.Members.{of_filter, member_left, mapped_member}
 use Rattle.adr_law_knowledge.proofs.Refusing.{answered}
-use Rattle.adr_law_steps.proofs.Rows.{held_as, updated}
-use Rattle.adr_law_logs.proofs.Woken.{adopted_is_woken}
-use Rattle.adr_law_logs.proofs.Candidates.{candidate_from}
-use Rattle.adr_law_logs.proofs.Ground.{first_front}
+use Rattle.adr_law_calls.proofs.Rows.{held_as, updated}
+use Rattle.adr_law_calls.proofs.Woken.{adopted_is_woken}
+use Rattle.adr_law_calls.proofs.Candidates.{candidate_from}
+use Rattle.adr_law_calls.proofs.Ground.{first_front}
 use Rattle.adr_model.specs.Spelled.{IsSpelledReply}
-use Rattle.adr_law_formed.proofs.Whence.{rows_from}
-use Rattle.adr_law_formed.proofs.TakenFollow.{taken_brings}
+use Rattle.adr_law_calls.proofs.Whence.{rows_from}
+use Rattle.adr_law_calls.proofs.TakenFollow.{taken_brings}
 use Rattle.adr_law_recorded.specs.Typed.{IsTypedWrite}
 use Rattle.adr_law_recorded.specs.Ranged.{IsRangedRequest, IsRangedReply}
 use Rattle.adr_law_recorded.proofs.Beginning.{new_may_begin, adopted_is_logged}

@@ -1,6 +1,6 @@
 -- What holds at every place of a run and on the way of each line: what each line keeps, and what follows of it.
 use Rattle.std.proofs.Common.{◌≡◌, List, ◌∷◌, ◌++◌, inl, refl, subst}
-use Rattle.adr_event.specs.declared.event.Event.{Event}
+use Rattle.adr_call.specs.declared.event.Event.{Event}
 use Rattle.adr_model.specs.Member.{Each}
 use Rattle.adr_model.specs.World.{World, empty_world}
 use Rattle.adr_model.specs.Sound.{IsWorldOfRun}

@@ -1,8 +1,8 @@
 -- Every state of every run of events that the program does is what a log may lead to, whatever was taken, and also behind a rollback.
 use Rattle.std.specs.Prelude.{List}
-use Rattle.adr_event.specs.Supported.{IsSupported}
-use Rattle.adr_event.specs.declared.event.Event.{Event}
-use Rattle.adr_event.specs.declared.event.Event.TheVariants as events
+use Rattle.adr_call.specs.Supported.{IsSupported}
+use Rattle.adr_call.specs.declared.event.Event.{Event}
+use Rattle.adr_call.specs.declared.event.Event.TheVariants as events
 use Rattle.adr_wire.specs.Ranges.{IsU32, IsU64}
 use Rattle.adr_records.specs.Logged.{IsLogged}
 use Rattle.adr_model.specs.Member.{Each}

@@ -2,8 +2,8 @@
 use Rattle.std.specs.Prelude.{◌≡◌, ℕ, List, [], ◌∷◌, ◌++◌, true, codes}
 use Rattle.adr_call.specs.declared.outcome.Outcome.TheVariants as outcomes
 use Rattle.adr_call.specs.declared.report.Report.TheVariants.{Directory}
-use Rattle.adr_event.specs.declared.event.Event.{Event}
-use Rattle.adr_event.specs.declared.event.Event.TheVariants as events
+use Rattle.adr_call.specs.declared.event.Event.{Event}
+use Rattle.adr_call.specs.declared.event.Event.TheVariants as events
 use Rattle.adr_schedule.specs.Schedules.{IsSchedule}
 use Rattle.adr_model.specs.Member.{Each}
 use Rattle.adr_model.specs.Directory.{directory}
@@ -11,7 +11,7 @@ use Rattle.adr_model.specs.Replica.{Up}
 use Rattle.adr_model.specs.World.{in_view, World, empty_world, answer}
 use Rattle.adr_model.specs.Step.{step}
 use Rattle.adr_model.specs.Convergence.{PutsNothingBack, ShowWhatIsVisible, ShowAlike, behind, StaysInView, IsPurgedCovered}
-use Rattle.adr_law_rounds.specs.Rounds.{ComeTogether, RingsTell}
+use Rattle.adr_law_convergence.specs.Rounds.{ComeTogether, RingsTell}
 use Rattle.adr_law_headline.specs.Throughout.{HoldsBehind, HoldsThroughout, HoldsOfEachLine}
 use Rattle.adr_law_headline.specs.Formed.{AreFormedThroughout}
 use Rattle.adr_law_headline.specs.Printable.{ArePrintableThroughout}

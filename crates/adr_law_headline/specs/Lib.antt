@@ -3,3 +3,4 @@ pub mod Formed
 pub mod Printable
 pub mod Refused
 pub mod Headline
+pub mod Exportable

@@ -1,6 +1,6 @@
 -- Refusals that don't come, line by line.
 use Rattle.std.specs.Prelude.{◌≡◌, true}
-use Rattle.adr_event.specs.declared.event.Event.{Event}
+use Rattle.adr_call.specs.declared.event.Event.{Event}
 use Rattle.adr_model.specs.World.{World}
 use Rattle.adr_model.specs.Step.{step}
 use Rattle.adr_model.specs.Convergence.{IsOnTheWay, NoneRefused, IsPurgedCovered, KeepsCovered}

@@ -1,6 +1,6 @@
 -- What holds at every place of a run: of the lines so far, of the world there, of the line that comes next, or on its way.
 use Rattle.std.specs.Prelude.{◌≡◌, List, ◌∷◌, ◌++◌, true}
-use Rattle.adr_event.specs.declared.event.Event.{Event}
+use Rattle.adr_call.specs.declared.event.Event.{Event}
 use Rattle.adr_model.specs.World.{World}
 use Rattle.adr_model.specs.Convergence.{IsOnTheWay, behind}
 

@@ -3,18 +3,25 @@
 //! It stands on the theorem of `adr_law_convergence` and on the definitions of schedules in `adr_schedule`: what the lines
 //! of a text say may happen, is typed, and is done by the program, so that the theorem holds of its run. That every state
 //! of a run of such events is one that a log may lead to stands on the laws of `adr_law_recorded`, which ask nothing of a
-//! sound world; that what is held then shows a directory which its lines tell, on those of `adr_answers`. Its functions
-//! have no code.
+//! sound world; that what is held then shows a directory which its lines tell, on those of `adr_answers`, and that its JSON
+//! tells it, on what `adr_json` asks of a directory. Its functions have no code.
 #![tactic(auto)]
 
+mod exported;
+
 ghost use Rattle.std.specs.Prelude.{ℕ, List};
-ghost use Rattle.adr_event.specs.declared.event.Event.{Event};
+ghost use Rattle.adr_call.specs.declared.event.Event.{Event};
 ghost use Rattle.adr_model.specs.Convergence.{MayAllHappen};
 ghost use Rattle.adr_model.specs.World.{empty_world};
 ghost use Rattle.adr_schedule.specs.Seen.{IsFollowing, nothing_seen};
 ghost use Rattle.adr_law_headline.specs.Formed.{AreAllTyped, AreSupported, RunsAreFormed};
 ghost use Rattle.adr_law_headline.specs.Printable.{AreWhole, RunsArePrintable};
 ghost use Rattle.adr_law_headline.specs.Headline.{Headline, IsHeadline};
+
+pub use exported::{
+    directories_are_exportable, directories_of_logs_are_exportable,
+    directories_of_texts_are_exportable,
+};
 
 /// What lines say, one after the other, may happen.
 #[tactic(auto, using(crate::proofs::Following::following_may))]

@@ -33,13 +33,13 @@ use Rattle.adr_model.specs.Take.{is_reserved_row}
 use Rattle.adr_model.specs.Update.{Identifier, Key, RowOf, LinkOf, Update, deleted_attr, same_identifier, unit_of}
 use Rattle.adr_model.proofs.Members.{mapped_member, member_left}
 use Rattle.adr_law_knowledge.proofs.Refusing.{answered}
-use Rattle.adr_law_steps.proofs.Rows.{updated}
-use Rattle.adr_law_logs.proofs.Candidates.{candidate_from, row_in_item}
-use Rattle.adr_law_logs.proofs.Ground.{first_front}
-use Rattle.adr_law_logs.proofs.Tables.{each_found}
-use Rattle.adr_law_formed.specs.Taken.{AreBare}
-use Rattle.adr_law_formed.proofs.Served as answer
-use Rattle.adr_law_formed.proofs.TakenFollow.{nothing_is_vector}
+use Rattle.adr_law_calls.proofs.Rows.{updated}
+use Rattle.adr_law_calls.proofs.Candidates.{candidate_from, row_in_item}
+use Rattle.adr_law_calls.proofs.Ground.{first_front}
+use Rattle.adr_law_calls.proofs.Tables.{each_found}
+use Rattle.adr_law_calls.specs.Taken.{AreBare}
+use Rattle.adr_law_calls.proofs.Served as answer
+use Rattle.adr_law_calls.proofs.TakenFollow.{nothing_is_vector}
 use Rattle.adr_image.specs.Body.{Body}
 use Rattle.adr_image.specs.Changes.{HasBody, change_of, item_of as item_said, written_of}
 use Rattle.adr_image.specs.Stored.{IsSpelledRow}

@@ -12,7 +12,7 @@ use Rattle.adr_model.specs.Formed.{IsFormed}
 use Rattle.adr_model.specs.Upgrade.{upgraded, upgrade_refusal, upgrade}
 use Rattle.adr_model.specs.Replica.{Book}
 use Rattle.adr_law_knowledge.proofs.Refusing.{answered}
-use Rattle.adr_law_steps.proofs.More.{rows_formed_more, classes_known_more}
+use Rattle.adr_law_calls.proofs.More.{rows_formed_more, classes_known_more}
 use Rattle.adr_law_calls.proofs.Upgraded.{same_vector}
 use Rattle.adr_law_partial.specs.Laws.{IsPart}
 use Rattle.adr_law_partial.specs.Partial.{Partial, partial_after, upgrade_part}

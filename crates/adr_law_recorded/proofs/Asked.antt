@@ -7,7 +7,7 @@ use Rattle.adr_model.specs.Update.{Identifier}
 use Rattle.adr_model.specs.Place.{identifier}
 use Rattle.adr_model.specs.Store.{PartnerMark, State, no_mark}
 use Rattle.adr_model.specs.Serve.{ask}
-use Rattle.adr_law_logs.proofs.Tables.{each_found}
+use Rattle.adr_law_calls.proofs.Tables.{each_found}
 use Rattle.adr_records.specs.Logged.{IsLogged}
 use Rattle.adr_law_recorded.specs.Ranged.{IsRangedRequest}
 

@@ -5,8 +5,8 @@ use Rattle.adr_model.specs.Collect.{adopt, woken}
 use Rattle.adr_model.specs.Formed.{IsFormedStore}
 use Rattle.adr_model.specs.Store.{Normal, State, Store, empty_state}
 use Rattle.adr_wire.specs.Ranges.{IsId}
-use Rattle.adr_law_formed.proofs.Still.{adopted_is_formed, new_is_formed}
-use Rattle.adr_law_logs.proofs.Woken.{adopted_is_woken}
+use Rattle.adr_law_calls.proofs.Still.{adopted_is_formed, new_is_formed}
+use Rattle.adr_law_calls.proofs.Woken.{adopted_is_woken}
 use Rattle.adr_image.specs.Stored.{IsSpelled}
 use Rattle.adr_image.proofs.Staying.{begins_spelled, raised_spelled}
 use Rattle.adr_state.specs.Refusal.{IsOverfull}

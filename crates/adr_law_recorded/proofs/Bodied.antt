@@ -34,9 +34,9 @@ use Rattle.adr_model.specs.Store.{Held, Mode, Normal, Quarantined, State}
 use Rattle.adr_model.specs.Take.{is_reserved_row}
 use Rattle.adr_model.specs.Update.{Key, RowOf, LinkOf, Said, Holds, IsPresent, Update, key_order, unit_of, deleted_attr}
 use Rattle.adr_model.proofs.Members.{member_flat}
-use Rattle.adr_law_formed.specs.Follow.{CanFollow, MayFollowInTurn, after_write}
+use Rattle.adr_law_calls.specs.Follow.{CanFollow, MayFollowInTurn, after_write}
 use Rattle.adr_model.specs.Spelled.{AreLocalsRising, IsSpelledItem, IsSpelledWrite}
-use Rattle.adr_law_formed.specs.Taken.{AreBare}
+use Rattle.adr_law_calls.specs.Taken.{AreBare}
 use Rattle.adr_image.specs.Body.{IsMarkIf, IsWrite, Write, one_name}
 use Rattle.adr_image.specs.Changes.{HasBody, item_of, mode_of_flag, written_of}
 use Rattle.adr_image.specs.Image.{Marked}

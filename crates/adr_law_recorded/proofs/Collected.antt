@@ -29,14 +29,14 @@ use Rattle.adr_model.proofs.Members.{mapped_member}
 use Rattle.adr_law_knowledge.proofs.Counting.{no_longer, rises_from}
 use Rattle.adr_law_knowledge.proofs.Refusing.{answered}
 use Rattle.adr_law_knowledge.proofs.Standing.{among_objects}
-use Rattle.adr_law_logs.proofs.Tables.{entry_from}
-use Rattle.adr_law_steps.proofs.Rows.{updated}
+use Rattle.adr_law_calls.proofs.Tables.{entry_from}
+use Rattle.adr_law_calls.proofs.Rows.{updated}
 use Rattle.adr_law_calls.specs.Collectable.{IsCollectable}
 use Rattle.adr_law_calls.proofs.Deaths.{all_collectable}
-use Rattle.adr_law_formed.specs.Taken.{AreBare}
-use Rattle.adr_law_formed.proofs.Collected.{collected_follows, collected_rise}
-use Rattle.adr_law_formed.proofs.Said.{neither}
-use Rattle.adr_law_formed.proofs.Still.{quarantine_follows}
+use Rattle.adr_law_calls.specs.Taken.{AreBare}
+use Rattle.adr_law_calls.proofs.Collected.{collected_follows, collected_rise}
+use Rattle.adr_law_calls.proofs.Said.{neither}
+use Rattle.adr_law_calls.proofs.Still.{quarantine_follows}
 use Rattle.adr_image.specs.Stored.{IsSpelledRow}
 use Rattle.adr_records.specs.Logged.{IsLogged, MayBeRecorded}
 use Rattle.adr_law_recorded.specs.InRange.{IsInRange}

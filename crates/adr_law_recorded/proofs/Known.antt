@@ -15,8 +15,8 @@ use Rattle.adr_model.specs.Reflects.{HoldsObject, IsTombstoned}
 use Rattle.adr_model.specs.Store.{Held, State, updates_of, row_held}
 use Rattle.adr_model.specs.Write.{object_refusal, nodes_held, object_of, usn_limit, usn_refusal, version_limit, version_of, version_refusal, first_stamp, next_stamp}
 use Rattle.adr_image.specs.Stored.{IsSpelledRow}
-use Rattle.adr_law_steps.proofs.Rows.{updated, held_as}
-use Rattle.adr_law_steps.proofs.Rising.{one_update}
+use Rattle.adr_law_calls.proofs.Rows.{updated, held_as}
+use Rattle.adr_law_calls.proofs.Rising.{one_update}
 use Rattle.adr_law_calls.proofs.Tests.{IsFound, row_found}
 use Rattle.adr_law_calls.specs.MayWrites.{IsHeldAlive}
 use Rattle.adr_law_calls.proofs.Nodes.{object_is_live}

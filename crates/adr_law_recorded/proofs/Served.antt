@@ -14,8 +14,8 @@ use Rattle.adr_model.specs.Change.{Item}
 use Rattle.adr_model.specs.Serve.{Request, Reply, item_of, item_length, candidates, byte_limit, first_items, times_told, reply_to, serve_refusal, serve}
 use Rattle.adr_model.specs.Spelled.{IsSaidOfKey, SayOfTheirKeys, IsSpelledReply}
 use Rattle.adr_law_knowledge.proofs.Refusing.{answered}
-use Rattle.adr_law_steps.proofs.Rows.{held_as}
-use Rattle.adr_law_formed.proofs.Served as answer
+use Rattle.adr_law_calls.proofs.Rows.{held_as}
+use Rattle.adr_law_calls.proofs.Served as answer
 use Rattle.adr_image.specs.Stored.{IsSpelledRow}
 use Rattle.adr_records.specs.BodyLaws.{content_of_attr}
 use Rattle.adr_records.specs.Logged.{IsLogged}

@@ -14,7 +14,7 @@ use Rattle.adr_model.specs.Change.{Item, Change}
 use Rattle.adr_model.specs.Serve.{Reply}
 use Rattle.adr_model.specs.Take.{Taking, begin, rows_taken, times_brought, writes_of, take_item, take}
 use Rattle.adr_law_calls.proofs.Passed.{passed}
-use Rattle.adr_law_formed.proofs.TakenFollow.{taken_bare, taken_brings, taken_follows}
+use Rattle.adr_law_calls.proofs.TakenFollow.{taken_bare, taken_brings, taken_follows}
 use Rattle.adr_law_recorded.specs.Ranged.{IsRangedReply}
 use Rattle.adr_law_recorded.specs.InRange.{IsInRange}
 use Rattle.adr_law_recorded.specs.Laws.{TakenIsRecorded}

@@ -15,8 +15,8 @@ use Rattle.adr_model.specs.Store.{Store, updates_of}
 use Rattle.adr_model.specs.Formed.{IsFormedStore}
 use Rattle.adr_model.specs.Write.{entry_in, no_entry, nodes_held, shown_in}
 use Rattle.adr_model.proofs.Members.{found_member, mapped_member}
-use Rattle.adr_law_steps.proofs.Rising.{one_update}
-use Rattle.adr_law_steps.proofs.Rows.{held_as}
+use Rattle.adr_law_calls.proofs.Rising.{one_update}
+use Rattle.adr_law_calls.proofs.Rows.{held_as}
 use Rattle.adr_law_calls.proofs.Shown.{IsShown, shown}
 use Rattle.adr_image.specs.Stored.{IsSpelled, IsSpelledRow}
 use Rattle.adr_image.proofs.Alone.{in_all}

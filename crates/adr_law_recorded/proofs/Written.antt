@@ -28,15 +28,15 @@ use Rattle.std.specs.Bool.{then_some}
 use Rattle.adr_model.proofs.Members.{mapped_member, member_mapped, flat_member}
 use Rattle.adr_image.specs.Stored.{IsSpelledRow}
 use Rattle.adr_law_knowledge.proofs.Refusing.{none_there, answered}
-use Rattle.adr_law_steps.specs.Forms.{IsWellSaid}
-use Rattle.adr_law_steps.proofs.Rows.{row_of_unit}
+use Rattle.adr_law_calls.specs.Forms.{IsWellSaid}
+use Rattle.adr_law_calls.proofs.Rows.{row_of_unit}
 use Rattle.adr_law_calls.specs.MayWrites.{Fits, MayWrite, IsHeldAlive, after_item}
 use Rattle.adr_law_calls.proofs.Reviving.{MayRelink, may_relink_all}
 use Rattle.adr_law_calls.proofs.WriteSound.{may_write}
 use Rattle.adr_law_calls.proofs.Stamps.{written}
 use Rattle.adr_law_calls.proofs.Writes.{well_said}
-use Rattle.adr_law_formed.proofs.EachWrite.{write_follows, write_is_bare}
-use Rattle.adr_law_formed.proofs.Whence.{rows_from}
+use Rattle.adr_law_calls.proofs.EachWrite.{write_follows, write_is_bare}
+use Rattle.adr_law_calls.proofs.Whence.{rows_from}
 use Rattle.adr_records.specs.Logged.{IsLogged}
 use Rattle.adr_law_recorded.specs.Typed.{IsTypedValue, IsTypedWrite}
 use Rattle.adr_law_recorded.specs.InRange.{IsInRange}

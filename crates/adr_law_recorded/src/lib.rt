@@ -4,7 +4,7 @@
 //! A journal asks of each change that it can follow its state and that its body is in range; the laws here say so of
 //! every call, and ask of a write only what its types say, and of a reply only what its form says. They ask nothing of
 //! soundness. It stands on the ranges of `adr_image`, on the states of a log in `adr_records` and on the laws of
-//! `adr_law_formed`. Its functions have no code: each contract is a law, stated in `specs/Laws`.
+//! `adr_law_calls`. Its functions have no code: each contract is a law, stated in `specs/Laws`.
 #![tactic(auto)]
 
 mod begun;

@@ -8,8 +8,8 @@ use Rattle.adr_model.specs.Store.{Held, Store, State, updates_of}
 use Rattle.adr_model.specs.Change.{held_of, rows_after}
 use Rattle.adr_model.specs.Formed.{IsFormedStore, IsFormed}
 use Rattle.adr_model.specs.Write.{Revive, revive_refusal, link_row as row_of_link, new_links, rows_written, more_written}
-use Rattle.adr_law_steps.specs.Puts.{held_at, IsReplaced, IsStripped}
-use Rattle.adr_law_steps.proofs.Rows.{held_as, updated}
+use Rattle.adr_law_calls.specs.Puts.{held_at, IsReplaced, IsStripped}
+use Rattle.adr_law_calls.proofs.Rows.{held_as, updated}
 use Rattle.adr_law_calls.proofs.InTurn.{rows_in_turn}
 use Rattle.adr_law_calls.proofs.PutForms.{whence_update}
 use Rattle.adr_law_calls.proofs.Reviving.{MayRelink, AreApart, item, next, are, rest, absent, apart, one, placed, of_new, no_new_death, may_relink_all}

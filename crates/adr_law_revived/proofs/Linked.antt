@@ -24,8 +24,8 @@ use Rattle.adr_model.proofs.Members.{each_fails, flat_member, member_flat, of_fi
 use Rattle.adr_law_knowledge.proofs.Comparing.{objects_same}
 use Rattle.adr_law_knowledge.proofs.Lists.{of_sorted}
 use Rattle.adr_law_knowledge.proofs.Refusing.{none_there}
-use Rattle.adr_law_steps.proofs.Rows.{held_as}
-use Rattle.adr_law_steps.proofs.Rising.{one_update}
+use Rattle.adr_law_calls.proofs.Rows.{held_as}
+use Rattle.adr_law_calls.proofs.Rising.{one_update}
 use Rattle.adr_law_calls.proofs.Nodes.{of_live_rows}
 use Rattle.adr_law_calls.proofs.Refusals.{not_so}
 use Rattle.adr_law_calls.proofs.Reviving.{end_told, link_is}

@@ -17,10 +17,10 @@ use Rattle.adr_model.proofs.Members.{none_passes, found}
 use Rattle.adr_law_knowledge.proofs.Refusing.{none_there, answered}
 use Rattle.adr_law_knowledge.proofs.Standing.{of_standing, in_standing}
 use Rattle.adr_law_knowledge.specs.Stands.{Stands}
-use Rattle.adr_law_logs.proofs.Written.{held_from}
-use Rattle.adr_law_steps.specs.Puts.{held_at}
-use Rattle.adr_law_steps.proofs.Rows.{updated}
-use Rattle.adr_law_steps.proofs.Rising.{one_update}
+use Rattle.adr_law_calls.proofs.Written.{held_from}
+use Rattle.adr_law_calls.specs.Puts.{held_at}
+use Rattle.adr_law_calls.proofs.Rows.{updated}
+use Rattle.adr_law_calls.proofs.Rising.{one_update}
 use Rattle.adr_law_calls.proofs.PutForms.{whence_update}
 use Rattle.adr_law_calls.proofs.Refusals.{not_so}
 use Rattle.adr_law_calls.proofs.InTurn.{first_by_itself}

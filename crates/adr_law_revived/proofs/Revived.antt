@@ -13,7 +13,7 @@ use Rattle.adr_model.specs.Formed.{IsFormed}
 use Rattle.adr_model.specs.Write.{Revive, is_of_guid, new_object, first_stamp, row, entry_in, links_revived, rows_written, link_row, new_links, items_written, own_change, write_refusal}
 use Rattle.adr_model.proofs.Members.{none_passes, mapped_member}
 use Rattle.adr_law_knowledge.proofs.Refusing.{answered}
-use Rattle.adr_law_logs.proofs.Written.{held_from}
+use Rattle.adr_law_calls.proofs.Written.{held_from}
 use Rattle.adr_law_tree.proofs.Edits.{untouched_law}
 use Rattle.adr_law_tree.proofs.Fuel.{same_guid, itself}
 use Rattle.adr_law_revived.specs.Revived.{nodes_in, OtherObjectsStay}

@@ -28,14 +28,14 @@ use Rattle.adr_values.specs.Numbered.{numbered}
 use Rattle.adr_call.specs.declared.directory.Entry.{Entry}
 use Rattle.adr_model.proofs.Members.{mapped_member, member_mapped}
 use Rattle.adr_law_knowledge.proofs.Refusing.{answered}
-use Rattle.adr_law_steps.proofs.Rising.{one_update}
+use Rattle.adr_law_calls.proofs.Rising.{one_update}
 use Rattle.adr_law_tree.specs.Breaker.{AreMore}
 use Rattle.adr_law_tree.specs.InOrder.{AreInOrder as AreNodesInOrder}
 use Rattle.adr_law_tree.proofs.Fuel.{same_guid, itself}
 use Rattle.adr_law_tree.proofs.InOrder.{order_law}
 use Rattle.adr_law_tree.proofs.RisingRows.{rising_updates}
 use Rattle.adr_law_tree.proofs.Names.{at_member, member_at}
-use Rattle.adr_law_formed.proofs.Relinked.{live_values_rise, shown_in_order, some_values_shown}
+use Rattle.adr_law_calls.proofs.Relinked.{live_values_rise, shown_in_order, some_values_shown}
 use Rattle.adr_law_revived.specs.Revived.{nodes_in, revived_node, values_shown, ValuesAreThose}
 use Rattle.adr_law_revived.proofs.Revival.{revival}
 use Rattle.adr_law_revived.proofs.Behind.{object_row, held_stays, new_stays}

@@ -1,6 +1,6 @@
 -- Pulls and cycles of pulls leave a controller that is shut off so, and none of their answers says that it did anything.
 use Rattle.std.proofs.Common.{◌≡◌, inl, inr, ⊎_elim, ℕ, zero, suc, List, [], ◌∷◌, ◌++◌, Bool, true, false, Option, Some, None, refl, sym, ap, ◌∙◌, codes}
-use Rattle.adr_event.specs.declared.answer.Answer.{Answer}
+use Rattle.adr_call.specs.declared.answer.Answer.{Answer}
 use Rattle.adr_call.specs.declared.outcome.Outcome.{Outcome}
 use Rattle.adr_call.specs.declared.outcome.Outcome.TheVariants as outcomes
 use Rattle.adr_model.specs.Store.{Quarantined, State}

@@ -1,6 +1,6 @@
 -- Pulls and cycles: one controller asks another, which serves, and it takes the reply. These messages have no name and aren't kept.
 use Rattle.std.specs.Prelude.{ℕ, zero, suc, List, [], ◌∷◌, ◌++◌, Bool, true, false, Option, Some, None, is_none, codes}
-use Rattle.adr_event.specs.declared.answer.Answer.{Answer}
+use Rattle.adr_call.specs.declared.answer.Answer.{Answer}
 use Rattle.adr_call.specs.declared.outcome.Outcome.{Outcome}
 use Rattle.adr_call.specs.declared.outcome.Outcome.TheVariants as outcomes
 use Rattle.adr_model.specs.Serve.{Request, Reply}

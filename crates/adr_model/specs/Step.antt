@@ -1,12 +1,12 @@
 -- What each line of a run does, and what it is answered.
 use Rattle.std.specs.Prelude.{ℕ, List, [], ◌∷◌, ◌++◌, Option, Some, None, codes}
-use Rattle.adr_event.specs.declared.event.Event.{Event}
-use Rattle.adr_event.specs.declared.event.Event.TheVariants as events
-use Rattle.adr_event.specs.declared.answer.Answer.{Answer}
+use Rattle.adr_call.specs.declared.event.Event.{Event}
+use Rattle.adr_call.specs.declared.event.Event.TheVariants as events
+use Rattle.adr_call.specs.declared.answer.Answer.{Answer}
 use Rattle.adr_call.specs.declared.outcome.Outcome.TheVariants as outcomes
 use Rattle.adr_model.specs.Update.{Identifier}
 use Rattle.adr_model.specs.Store.{Store, empty_state}
-use Rattle.adr_event.specs.Verbs.{verb_of_report, verb_of_write, word_of}
+use Rattle.adr_call.specs.Verbs.{verb_of_report, verb_of_write, word_of}
 use Rattle.adr_model.specs.Write.{Write, Revive, write_meant}
 use Rattle.adr_model.specs.Collect.{collect, backup, adopt}
 use Rattle.adr_model.specs.Upgrade.{upgrade}

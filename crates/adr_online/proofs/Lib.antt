@@ -5,3 +5,8 @@ pub mod Many
 pub mod Monotone
 pub mod Begun
 pub mod Mirroring
+pub mod SentOver
+pub mod Opened
+pub mod Cycled
+pub mod Started
+pub mod Carried

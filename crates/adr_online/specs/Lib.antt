@@ -3,3 +3,7 @@ pub mod Posts
 pub mod Served
 pub mod Goes
 pub mod Serves
+pub mod Dialled
+pub mod Pulls
+pub mod Texts
+pub mod Sends

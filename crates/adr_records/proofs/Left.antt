@@ -21,7 +21,7 @@ use Rattle.adr_model.specs.Take.{class_said, is_birth, is_reserved_row}
 use Rattle.adr_model.proofs.Keys.{objects_tell}
 use Rattle.adr_table.proofs.Linked.{held_filtered}
 use Rattle.adr_law_tree.proofs.Kept.{any_folded}
-use Rattle.adr_law_formed.specs.Tested.{all_of_object, fits_class, is_alive_formed, is_class_known, is_formed_by, is_object_formed, is_touched_formed, says_allowed_name, says_dead}
+use Rattle.adr_law_calls.specs.Tested.{all_of_object, fits_class, is_alive_formed, is_class_known, is_formed_by, is_object_formed, is_touched_formed, says_allowed_name, says_dead}
 
 -- ---- the set of removed objects
 

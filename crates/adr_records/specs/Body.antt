@@ -3,7 +3,7 @@ use Rattle.std.specs.Prelude.{if◌then◌else◌, ◌==◌, ◌&&◌, ℕ, nat_
 use Rattle.std.specs.List.{list_all}
 use Rattle.adr_model.specs.Change.{Change, Written, after}
 use Rattle.adr_model.specs.Store.{State}
-use Rattle.adr_law_formed.specs.Tested.{can_follow}
+use Rattle.adr_law_calls.specs.Tested.{can_follow}
 use Rattle.adr_image.specs.Changes.{decoded_change}
 
 -- whether what is written has local USNs up to the USN after

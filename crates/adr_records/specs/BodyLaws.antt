@@ -29,8 +29,8 @@ use Rattle.adr_model.specs.Member.{Each, Member}
 use Rattle.adr_model.specs.Store.{State}
 use Rattle.adr_model.specs.Update.{Key, RowOf, LinkOf, IsPresent, Update, key_order, unit_of}
 use Rattle.adr_model.specs.Spelled.{AreLocalsRising, IsContentOfAttr, IsSaidOfKey, IsSpelledChange, IsSpelledItem, IsSpelledWrite}
-use Rattle.adr_law_formed.specs.Tested.{can_follow}
-use Rattle.adr_law_formed.proofs.WholeTested.{follows_where_tested, tested_where_follows}
+use Rattle.adr_law_calls.specs.Tested.{can_follow}
+use Rattle.adr_law_calls.proofs.WholeTested.{follows_where_tested, tested_where_follows}
 use Rattle.adr_journal.specs.Kept.{ids_of}
 use Rattle.adr_image.specs.Body.{IsMarkIf, IsWrite, Write}
 use Rattle.adr_image.specs.Changes.{HasBody, change_bytes, decoded_change, item_of, written_of}

@@ -14,7 +14,7 @@ use Rattle.adr_model.specs.Lengths.{image_length, length_limit, log_version}
 use Rattle.adr_model.specs.Store.{Held, Mode, Normal, State, Store}
 use Rattle.adr_model.specs.Update.{Identifier}
 use Rattle.adr_model.proofs.Members.{mapped_member}
-use Rattle.adr_law_formed.specs.Follow.{HasKnownClasses}
+use Rattle.adr_law_calls.specs.Follow.{HasKnownClasses}
 use Rattle.adr_law_journal.specs.Areas.{Began, IsHead, TellsArea, WasArea}
 use Rattle.adr_image.specs.Stored.{IsSpelled, image, image_at}
 use Rattle.adr_image.proofs.Counted.{store_long}

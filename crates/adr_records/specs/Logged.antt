@@ -4,7 +4,7 @@ use Rattle.adr_wire.specs.Ranges.{IsId}
 use Rattle.adr_model.specs.Change.{Change}
 use Rattle.adr_model.specs.Formed.{IsFormed}
 use Rattle.adr_model.specs.Store.{Normal, State}
-use Rattle.adr_law_formed.specs.Follow.{CanFollow, HasKnownClasses}
+use Rattle.adr_law_calls.specs.Follow.{CanFollow, HasKnownClasses}
 use Rattle.adr_image.specs.Changes.{HasBody}
 use Rattle.adr_image.specs.Stored.{IsSpelled}
 

@@ -2,9 +2,9 @@
 
 ghost use Rattle.std.specs.Prelude.{◌≡◌, ◌↔◌, IfOk, IsTrue};
 ghost use Rattle.adr_model.specs.Formed.{IsFormed};
-ghost use Rattle.adr_law_formed.specs.Follow.{CanFollow, HasKnownClasses};
+ghost use Rattle.adr_law_calls.specs.Follow.{CanFollow, HasKnownClasses};
 ghost use Rattle.adr_model.specs.Spelled.{IsSpelledChange};
-ghost use Rattle.adr_law_formed.specs.Tested.{can_follow, writes_pass};
+ghost use Rattle.adr_law_calls.specs.Tested.{can_follow, writes_pass};
 
 use crate::NoMemory;
 use crate::numbers::keeps_schema;
@@ -12,7 +12,7 @@ use crate::removed::are_removable;
 use crate::touched::are_touched_formed;
 use crate::vectors::{are_in_order, comes_after};
 use crate::writes::may_follow_in_turn;
-use adr_law_formed::changes_are_tested;
+use adr_law_calls::changes_are_tested;
 use adr_overlay::Overlay;
 use adr_state::{Change, State};
 use std::alloc::Global;

@@ -6,7 +6,7 @@ ghost use Rattle.std.specs.Result.{result_err};
 ghost use Rattle.adr_values.specs.Table.{is_forward, kind_at};
 ghost use Rattle.adr_model.specs.Take.{is_reserved_row};
 ghost use Rattle.adr_update.specs.Said.{said_of};
-ghost use Rattle.adr_law_formed.specs.Tested.{fits_class, is_class_known, says_allowed_name, says_dead};
+ghost use Rattle.adr_law_calls.specs.Tested.{fits_class, is_class_known, says_allowed_name, says_dead};
 
 use adr_checks::{Schema, check_name};
 use adr_overlay::is_reserved;

@@ -1,7 +1,7 @@
 //! The number of the schema that a change leaves.
 
 ghost use Rattle.std.specs.Prelude.{◌≡◌, ◌==◌, ◌||◌};
-ghost use Rattle.adr_law_formed.specs.Tested.{is_upgraded};
+ghost use Rattle.adr_law_calls.specs.Tested.{is_upgraded};
 
 use adr_state::{Change, State};
 

@@ -4,7 +4,7 @@ ghost use Rattle.std.specs.Prelude.{◌≡◌, [], IfOk, fold};
 ghost use Rattle.std.specs.BTreeSet.{insert_key};
 ghost use Rattle.adr_values.specs.Order.{object_order};
 ghost use Rattle.adr_values.specs.Vector.{covers, joined};
-ghost use Rattle.adr_law_formed.specs.Tested.{are_removable, is_removable};
+ghost use Rattle.adr_law_calls.specs.Tested.{are_removable, is_removable};
 
 use crate::NoMemory;
 use adr_overlay::Overlay;

@@ -11,7 +11,7 @@ ghost use Rattle.adr_model.specs.Take.{is_reserved_row};
 ghost use Rattle.adr_model.specs.Update.{RowOf, deleted_attr};
 ghost use Rattle.adr_values.specs.Table.{must_of};
 ghost use Rattle.adr_update.specs.Key.{key_of};
-ghost use Rattle.adr_law_formed.specs.Tested.{all_of_object, are_touched_formed, fits_class, is_alive_formed, is_formed_by, is_object_formed, is_touched_formed};
+ghost use Rattle.adr_law_calls.specs.Tested.{all_of_object, are_touched_formed, fits_class, is_alive_formed, is_formed_by, is_object_formed, is_touched_formed};
 
 use crate::NoMemory;
 use crate::forms::{

@@ -3,7 +3,7 @@
 ghost use Rattle.std.specs.Prelude.{◌≡◌, length};
 ghost use Rattle.adr_values.specs.Vector.{at, at_most};
 ghost use Rattle.adr_model.specs.Change.{after, with_mark};
-ghost use Rattle.adr_law_formed.specs.Tested.{are_in_order, comes_after};
+ghost use Rattle.adr_law_calls.specs.Tested.{are_in_order, comes_after};
 
 use adr_overlay::len_after;
 use adr_state::{CURSOR_LIMIT, Change, MARK_LIMIT, State, is_same};

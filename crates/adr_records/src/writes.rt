@@ -8,8 +8,8 @@ ghost use Rattle.adr_model.specs.Change.{held_of, rows_after};
 ghost use Rattle.adr_model.specs.Store.{Held};
 ghost use Rattle.adr_model.specs.Take.{is_above, is_of_attr};
 ghost use Rattle.adr_model.specs.Update.{deleted_attr};
-ghost use Rattle.adr_law_formed.specs.Follow.{after_write};
-ghost use Rattle.adr_law_formed.specs.Tested.{are_within_limits, may_follow, may_follow_in_turn, may_write_object, may_write_unit};
+ghost use Rattle.adr_law_calls.specs.Follow.{after_write};
+ghost use Rattle.adr_law_calls.specs.Tested.{are_within_limits, may_follow, may_follow_in_turn, may_write_object, may_write_unit};
 ghost use Rattle.adr_overlay.specs.Presence.{defined};
 ghost use Rattle.adr_overlay.specs.Standing.{IsStanding};
 

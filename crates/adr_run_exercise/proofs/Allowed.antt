@@ -7,8 +7,8 @@ use Rattle.std.specs.Fmt.{decimal}
 use Rattle.std.proofs.lemmas.Int.{ints}
 use Rattle.adr_values.specs.declared.content.Value.TheVariants.{Text as Words, Number as Figures}
 use Rattle.adr_call.specs.declared.write.Write.TheVariants.{Add, Delete, Link}
-use Rattle.adr_event.specs.declared.event.Event.{Event}
-use Rattle.adr_event.specs.declared.event.Event.TheVariants as kinds
+use Rattle.adr_call.specs.declared.event.Event.{Event}
+use Rattle.adr_call.specs.declared.event.Event.TheVariants as kinds
 use Rattle.adr_token.specs.Words.{is_name}
 use Rattle.adr_token.specs.Texts.{is_text}
 use Rattle.adr_token.specs.Spelling.{identifier_token, text_token, value_token}

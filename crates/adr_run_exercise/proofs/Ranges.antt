@@ -4,7 +4,7 @@ use Rattle.std.specs.List.{range_with_len, flat_map}
 use Rattle.std.proofs.lemmas.List.{map-id, append-nil}
 use Rattle.std.proofs.lemmas.List.Concat.{flat_map-append}
 use Rattle.std.proofs.lemmas.List.FromFn.{map-range_with_len_more}
-use Rattle.adr_event.specs.declared.event.Event.{Event}
+use Rattle.adr_call.specs.declared.event.Event.{Event}
 use Rattle.adr_run_exercise.specs.Generated.{round, rounds}
 
 rounds_more : (n : ℕ) → rounds (n + 1) ≡ rounds n ++ round

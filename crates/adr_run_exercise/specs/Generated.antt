@@ -6,8 +6,8 @@ use Rattle.std.specs.List.{range_with_len, flat_map, filter}
 use Rattle.adr_values.specs.Assignments.{Given}
 use Rattle.adr_values.specs.declared.content.Value.TheVariants.{Text, Number}
 use Rattle.adr_call.specs.declared.write.Write.TheVariants.{Add, Delete, Link}
-use Rattle.adr_event.specs.declared.event.Event.{Event}
-use Rattle.adr_event.specs.declared.event.Event.TheVariants.{Controller, Time, Write, Ask, Serve, Pull, Cycle, Collect, Backup, Restore}
+use Rattle.adr_call.specs.declared.event.Event.{Event}
+use Rattle.adr_call.specs.declared.event.Event.TheVariants.{Controller, Time, Write, Ask, Serve, Pull, Cycle, Collect, Backup, Restore}
 
 -- ---- names and numbers
 

@@ -8,7 +8,7 @@ use Rattle.adr_values.specs.Table.{kind_at, is_forward}
 use Rattle.adr_call.specs.declared.directory.Entry.{Entry}
 use Rattle.adr_call.specs.declared.outcome.Outcome.{Outcome}
 use Rattle.adr_call.specs.declared.outcome.Outcome.TheVariants as outcomes
-use Rattle.adr_event.specs.declared.answer.Answer.{Answer}
+use Rattle.adr_call.specs.declared.answer.Answer.{Answer}
 use Rattle.adr_model.specs.Update.{Identifier}
 use Rattle.adr_model.specs.World.{World, Name, empty_world, shown}
 use Rattle.adr_model.specs.Step.{after_lines, answers}

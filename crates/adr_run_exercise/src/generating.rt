@@ -1,13 +1,13 @@
 //! The events of the schedule.
 
 ghost use Rattle.std.specs.Prelude.{◌≡◌, ◌++◌, IfOk, OnOk, All};
-ghost use Rattle.adr_event.specs.Supported.{IsSupported};
+ghost use Rattle.adr_call.specs.Supported.{IsSupported};
 ghost use Rattle.adr_schedule.specs.Seen.{nothing_seen, IsFollowing};
 ghost use Rattle.adr_run_exercise.specs.Generated.{beginning, collections, deletions, groups, persons, rounds, schedule};
 
 use crate::lines::{push_beginning, push_collections, push_groups, push_rounds};
 use crate::persons::{push_deletions, push_persons};
-use adr_event::Event;
+use adr_call::Event;
 use adr_values::NoMemory;
 use std::alloc::Global;
 

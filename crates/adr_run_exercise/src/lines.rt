@@ -1,12 +1,11 @@
 //! The lines of the schedule that don't depend on its number.
 
 ghost use Rattle.std.specs.Prelude.{◌≡◌, ◌++◌, ◌∷◌, [], ◌<◌, IfOk, OnOk};
-ghost use Rattle.adr_event.specs.declared.event.Event.TheVariants as kinds;
+ghost use Rattle.adr_call.specs.declared.event.Event.TheVariants as kinds;
 ghost use Rattle.adr_run_exercise.specs.Generated.{beginning, collections, group_added, groups, identifier, round, rounds};
 
 use crate::words::{group, identifier, numbered, root};
-use adr_call::Write;
-use adr_event::Event;
+use adr_call::{Event, Write};
 use adr_values::{Assignments, NoMemory, Text, Value};
 use std::alloc::{AllocError, Global};
 

@@ -1,14 +1,13 @@
 //! The lines of the persons, of whom there are five times as many as the schedule's number.
 
 ghost use Rattle.std.specs.Prelude.{◌≡◌, ◌<◌, ◌+◌, ◌*◌, ◌/◌, ◌%◌, ◌^◌, ◌++◌, ◌∷◌, [], OnOk, codes};
-ghost use Rattle.adr_event.specs.declared.event.Event.TheVariants as kinds;
+ghost use Rattle.adr_call.specs.declared.event.Event.TheVariants as kinds;
 ghost use Rattle.adr_run_exercise.specs.Generated.{backed_up, controller, deletions, exchange, exchanged, identifier, lost, met, numbered, person_added, person_deleted, person_lines, person_linked, persons, restored, state};
 
 use crate::generator::Generator;
 use crate::lines::{one_value, push, push_cycle, push_time};
 use crate::words::{controller, group, identifier, numbered, person, root};
-use adr_call::Write;
-use adr_event::Event;
+use adr_call::{Event, Write};
 use adr_values::{NoMemory, Text, Value};
 use std::alloc::Global;
 

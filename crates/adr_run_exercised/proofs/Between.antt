@@ -2,8 +2,8 @@
 use Rattle.std.proofs.Common.{◌≡◌, ◌⊎◌, inl, inr, ⊎_elim, ℕ, List, [], ◌∷◌, true, false, Ok, refl, sym, ap, ◌∙◌, subst, arith}
 use Rattle.std.specs.Prelude.{codes}
 use Rattle.std.specs.Str.{bytes_eq}
-use Rattle.adr_event.specs.declared.event.Event.{Event}
-use Rattle.adr_event.specs.declared.event.Event.TheVariants as events
+use Rattle.adr_call.specs.declared.event.Event.{Event}
+use Rattle.adr_call.specs.declared.event.Event.TheVariants as events
 use Rattle.adr_values.specs.Vector.{Cursors, at, at_most}
 use Rattle.adr_values.proofs.Comparing.{everywhere_from_at_most, at_most_from_everywhere}
 use Rattle.adr_model.specs.Member.{Member, Each}
@@ -20,8 +20,8 @@ use Rattle.adr_law_calls.proofs.CollectionFollows.{collect_is_collection}
 use Rattle.adr_law_calls.proofs.CollectionFormed.{covered, higher}
 use Rattle.adr_law_calls.proofs.PurgedVector.{purged_within}
 use Rattle.adr_law_convergence.proofs.Found.{same_name_tests}
-use Rattle.adr_law_rounds.proofs.Runs.{stands}
-use Rattle.adr_law_rounds.proofs.Wholes.{IsCycled}
+use Rattle.adr_law_convergence.proofs.Runs.{stands}
+use Rattle.adr_law_convergence.proofs.Wholes.{IsCycled}
 use Rattle.adr_run_exercise.specs.Generated.{collections}
 use Rattle.adr_run_exercised.proofs.Collecting.{IsLeft, collecting_case, collecting_sound}
 use Rattle.adr_run_exercised.proofs.Level.{own_or_other}

@@ -5,8 +5,8 @@ use Rattle.adr_call.specs.declared.outcome.Outcome.TheVariants as outcomes
 use Rattle.adr_call.specs.declared.refusal.Table.TheVariants.{Log}
 use Rattle.adr_call.specs.declared.refusal.CollectRefusal.{CollectRefusal}
 use Rattle.adr_disk.specs.declared.memory.Crash.TheVariants.{Kept, Lost, Torn}
-use Rattle.adr_event.specs.declared.event.Event.{Event}
-use Rattle.adr_event.specs.declared.event.Event.TheVariants as events
+use Rattle.adr_call.specs.declared.event.Event.{Event}
+use Rattle.adr_call.specs.declared.event.Event.TheVariants as events
 use Rattle.adr_values.specs.declared.stamp.Oid.{Oid}
 use Rattle.adr_values.specs.Vector.{at}
 use Rattle.adr_values.proofs.Joining.{raised_elsewhere}
@@ -37,7 +37,7 @@ use Rattle.adr_law_convergence.proofs.Issuing.{step_keeps}
 use Rattle.adr_law_convergence.proofs.Moves.{committing}
 use Rattle.adr_law_convergence.proofs.Reached.{reached_case, within_case}
 use Rattle.adr_law_convergence.proofs.Stepping.{step_sound}
-use Rattle.adr_law_rounds.proofs.Knowing.{knows_too}
+use Rattle.adr_law_convergence.proofs.Knowing.{knows_too}
 use Rattle.adr_run_exercised.proofs.Level.{IsLevel, AreLevel, own_or_other, own_covered}
 
 -- ---- stores

@@ -3,8 +3,8 @@ use Rattle.std.proofs.Common.{◌≡◌, ℕ, zero, suc, ◌+◌, ◌*◌, ◌/�
 use Rattle.std.specs.Prelude.{◌==◌, if◌then◌else◌, codes}
 use Rattle.std.specs.List.{range_with_len, flat_map}
 use Rattle.adr_call.specs.declared.write.Write.TheVariants.{Delete}
-use Rattle.adr_event.specs.declared.event.Event.{Event}
-use Rattle.adr_event.specs.declared.event.Event.TheVariants as events
+use Rattle.adr_call.specs.declared.event.Event.{Event}
+use Rattle.adr_call.specs.declared.event.Event.TheVariants as events
 use Rattle.adr_run_exercise.specs.Generated.{controller, identifier, person, round, rounds, beginning, group_added, groups, backed_up, restored, person_added, person_linked, lost, exchanged, met, exchange, drawn, state, person_lines, persons, person_deleted, deletions, collections}
 use Rattle.adr_run_exercised.specs.Exercised.{until_deleted, until_collected}
 use Rattle.adr_run_exercised.proofs.Few.{is_write, writes_in}

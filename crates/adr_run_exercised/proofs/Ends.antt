@@ -1,7 +1,7 @@
 -- Where the last cycles are whole the four are level behind the deletions, stay so where they collect, and show the same at the end.
 use Rattle.std.proofs.Common.{◌≡◌, ◌<◌, ◌^◌, inl, inr, ℕ, List, [], ◌∷◌, ◌++◌, Bool, true, map, append_assoc, refl, sym, ap, ◌∙◌, subst, arith}
 use Rattle.std.specs.Prelude.{codes}
-use Rattle.adr_event.specs.declared.event.Event.{Event}
+use Rattle.adr_call.specs.declared.event.Event.{Event}
 use Rattle.adr_model.specs.Member.{Member, Each}
 use Rattle.adr_model.specs.Update.{Update}
 use Rattle.adr_model.specs.World.{Name, World, empty_world}
@@ -13,11 +13,11 @@ use Rattle.adr_model.proofs.Members.{member_left}
 use Rattle.adr_law_convergence.proofs.Converging.{runs_stay_clean}
 use Rattle.adr_law_convergence.proofs.Lines.{runs_are_sound}
 use Rattle.adr_law_headline.proofs.Following.{following_may}
-use Rattle.adr_law_rounds.specs.Rounds.{Exchange, connection, line_of, AreWhole, AreAmong, behind_exchanges, in_turn, IsRound, AreConnected, HaveOneVector}
-use Rattle.adr_law_rounds.proofs.Hearing.{rings_are_connected}
-use Rattle.adr_law_rounds.proofs.Rounds.{rounds_converge}
-use Rattle.adr_law_rounds.proofs.Runs.{sound_behind, issued_behind, settled_behind, AreSettled}
-use Rattle.adr_law_rounds.proofs.Telling.{IsUp, pulled_is_up, directories_alike}
+use Rattle.adr_law_convergence.specs.Rounds.{Exchange, connection, line_of, AreWhole, AreAmong, behind_exchanges, in_turn, IsRound, AreConnected, HaveOneVector}
+use Rattle.adr_law_convergence.proofs.Hearing.{rings_are_connected}
+use Rattle.adr_law_convergence.proofs.Rounds.{rounds_converge}
+use Rattle.adr_law_convergence.proofs.Runs.{sound_behind, issued_behind, settled_behind, AreSettled}
+use Rattle.adr_law_convergence.proofs.Telling.{IsUp, pulled_is_up, directories_alike}
 use Rattle.adr_run_exercise.specs.Generated.{beginning, round, rounds, groups, persons, deletions, collections, schedule}
 use Rattle.adr_run_exercise.specs.Laws.{SchedulesFollow}
 use Rattle.adr_run_exercise.specs.Summary.{four_names, summary}

@@ -4,8 +4,8 @@ use Rattle.std.specs.Prelude.{codes}
 use Rattle.std.specs.List.{sum_by}
 use Rattle.std.proofs.lemmas.List.Sums.{sum_by-cons}
 use Rattle.adr_values.specs.Vector.{Cursors, at}
-use Rattle.adr_event.specs.declared.answer.Answer.{Answer}
-use Rattle.adr_event.specs.declared.event.Event.{Event}
+use Rattle.adr_call.specs.declared.answer.Answer.{Answer}
+use Rattle.adr_call.specs.declared.event.Event.{Event}
 use Rattle.adr_call.specs.declared.outcome.Outcome.TheVariants as outcomes
 use Rattle.adr_model.specs.Member.{Member, Each}
 use Rattle.adr_model.specs.Reflects.{AtMost}
@@ -16,7 +16,7 @@ use Rattle.adr_model.specs.Cycles.{reply_limit}
 use Rattle.adr_model.specs.Step.{step, after_lines, answers}
 use Rattle.adr_model.specs.Convergence.{behind, IsRefused, AreUnlimited}
 use Rattle.adr_model.proofs.Members.{member_left, member_right, member_of_either}
-use Rattle.adr_law_rounds.specs.Rounds.{line_of, AreWhole, in_turn, behind_exchanges}
+use Rattle.adr_law_convergence.specs.Rounds.{line_of, AreWhole, in_turn, behind_exchanges}
 use Rattle.adr_run_exercise.specs.Generated.{identifier, beginning, rounds, collections, schedule}
 use Rattle.adr_run_exercise.specs.Laws.{SchedulesFollow}
 use Rattle.adr_run_exercise.specs.Summary.{four_names, refusals_in, summary}

@@ -6,8 +6,8 @@ use Rattle.adr_call.specs.declared.refusal.AdoptRefusal.{AdoptRefusal}
 use Rattle.adr_call.specs.declared.write.Write.{Write as Asked}
 use Rattle.adr_call.specs.declared.write.Write.TheVariants as asked
 use Rattle.adr_disk.specs.declared.memory.Crash.TheVariants.{Kept, Lost, Torn}
-use Rattle.adr_event.specs.declared.event.Event.{Event}
-use Rattle.adr_event.specs.declared.event.Event.TheVariants as events
+use Rattle.adr_call.specs.declared.event.Event.{Event}
+use Rattle.adr_call.specs.declared.event.Event.TheVariants as events
 use Rattle.adr_values.specs.Assignments.{Given}
 use Rattle.adr_values.specs.declared.content.Content.TheVariants.{Values}
 use Rattle.adr_values.specs.declared.stamp.LinkStamp.{LinkStamp}
@@ -36,7 +36,7 @@ use Rattle.adr_law_knowledge.specs.Rises.{Rises}
 use Rattle.adr_law_knowledge.proofs.Counting.{no_longer}
 use Rattle.adr_law_knowledge.proofs.Lists.{filter_rises, sorted_rises}
 use Rattle.adr_law_knowledge.proofs.Refusing.{answered}
-use Rattle.adr_law_logs.proofs.Candidates.{unit_of_row}
+use Rattle.adr_law_calls.proofs.Candidates.{unit_of_row}
 use Rattle.adr_law_convergence.proofs.Called.{IsKeptBehind, writes_so, asks_so, serves_so, delivers_so, collects_so, backs_up_so}
 use Rattle.adr_law_convergence.proofs.Calls.{in_change}
 use Rattle.adr_law_convergence.proofs.Exchanges.{IsKeptByCalls, worlds_alone, pull_so, pulls_so}

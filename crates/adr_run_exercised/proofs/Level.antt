@@ -17,10 +17,10 @@ use Rattle.adr_law_knowledge.proofs.Comparing.{supersedes_self}
 use Rattle.adr_law_knowledge.proofs.Knows.{covers_up}
 use Rattle.adr_law_convergence.proofs.Controllers.{replica_is_sound}
 use Rattle.adr_law_convergence.proofs.Found.{same_name, same_name_tests}
-use Rattle.adr_law_rounds.specs.Rounds.{Exchange, line_of, AreWhole, AreAmong, behind_exchanges, ShowTheSame}
-use Rattle.adr_law_rounds.proofs.Knowing.{Knows, knows_too, shows_all}
-use Rattle.adr_law_rounds.proofs.Runs.{stands}
-use Rattle.adr_law_rounds.proofs.Wholes.{IsCycled, cycled}
+use Rattle.adr_law_convergence.specs.Rounds.{Exchange, line_of, AreWhole, AreAmong, behind_exchanges, ShowTheSame}
+use Rattle.adr_law_convergence.proofs.Knowing.{Knows, knows_too, shows_all}
+use Rattle.adr_law_convergence.proofs.Runs.{stands}
+use Rattle.adr_law_convergence.proofs.Wholes.{IsCycled, cycled}
 
 -- all that a store holds or covers is among these updates, and it knows each of them
 pub record IsLevel (issued all : List Update) (s : Store) : Type 0 where

@@ -3,8 +3,8 @@ use Rattle.std.proofs.Common.{◌≡◌, inl, inr, ℕ, zero, suc, ◌+◌, ◌*
 use Rattle.std.specs.Prelude.{◌==◌, if◌then◌else◌, codes}
 use Rattle.std.specs.List.{range_with_len, flat_map}
 use Rattle.adr_call.specs.declared.write.Write.TheVariants.{Delete}
-use Rattle.adr_event.specs.declared.event.Event.{Event}
-use Rattle.adr_event.specs.declared.event.Event.TheVariants as events
+use Rattle.adr_call.specs.declared.event.Event.{Event}
+use Rattle.adr_call.specs.declared.event.Event.TheVariants as events
 use Rattle.adr_model.specs.World.{World}
 use Rattle.adr_model.specs.Step.{step, after_lines}
 use Rattle.adr_model.specs.Convergence.{MayAllHappen, puts_back, PutsNothingBack}

@@ -1,7 +1,7 @@
 -- No line of the schedule changes a schema, and only collections change what was collected.
 use Rattle.std.proofs.Common.{◌≡◌, ℕ, List, [], ◌∷◌, true, false, Some, refl, sym, ap, ◌∙◌, subst}
-use Rattle.adr_event.specs.declared.event.Event.{Event}
-use Rattle.adr_event.specs.declared.event.Event.TheVariants as events
+use Rattle.adr_call.specs.declared.event.Event.{Event}
+use Rattle.adr_call.specs.declared.event.Event.TheVariants as events
 use Rattle.adr_values.specs.Vector.{joined}
 use Rattle.adr_model.specs.Store.{Store, State}
 use Rattle.adr_model.specs.Change.{Change, after}

@@ -17,9 +17,9 @@ use Rattle.adr_law_knowledge.proofs.Knows.{covers_up}
 use Rattle.adr_law_knowledge.proofs.View.{covered_is_visible, held_is_visible, of_visible, visible_is_in_view}
 use Rattle.adr_law_convergence.proofs.Controllers.{replica_is_sound}
 use Rattle.adr_law_convergence.proofs.Found.{same_name, same_name_tests}
-use Rattle.adr_law_rounds.specs.Rounds.{HaveOneVector, Reaches, AreConnected}
-use Rattle.adr_law_rounds.proofs.Knowing.{Knows, known_where_reflected, knows_too}
-use Rattle.adr_law_rounds.proofs.Runs.{one_of, AreSettled}
+use Rattle.adr_law_convergence.specs.Rounds.{HaveOneVector, Reaches, AreConnected}
+use Rattle.adr_law_convergence.proofs.Knowing.{Knows, known_where_reflected, knows_too}
+use Rattle.adr_law_convergence.proofs.Runs.{one_of, AreSettled}
 use Rattle.adr_run_exercised.proofs.Level.{AreLevel}
 
 -- ---- what some have in view

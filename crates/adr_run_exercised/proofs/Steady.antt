@@ -1,6 +1,6 @@
 -- Whole cycles of the four: where no limit was met, and none was cut off, each is whole.
 use Rattle.std.proofs.Common.{◌≡◌, ◌≢◌, ◌<◌, ◌≤◌, ◌⊎◌, inl, inr, ⊎_elim, ℕ, List, [], ◌∷◌, true, map, refl, sym, ap, subst, arith}
-use Rattle.adr_event.specs.declared.answer.Answer.{Answer}
+use Rattle.adr_call.specs.declared.answer.Answer.{Answer}
 use Rattle.adr_call.specs.declared.outcome.Outcome.TheVariants as outcomes
 use Rattle.adr_model.specs.Member.{Member, Each}
 use Rattle.adr_model.specs.Reflects.{Numbers}
@@ -11,8 +11,8 @@ use Rattle.adr_model.specs.Sound.{IsSoundWorld}
 use Rattle.adr_model.specs.Step.{step, answers}
 use Rattle.adr_model.specs.Convergence.{IsRefused, AreUnlimited}
 use Rattle.adr_model.proofs.Members.{member_left, member_right, member_of_either}
-use Rattle.adr_law_rounds.specs.Rounds.{Exchange, connection, line_of, IsWhole, AreWhole, in_turn}
-use Rattle.adr_law_rounds.proofs.Wholes.{IsCycled, cycled}
+use Rattle.adr_law_convergence.specs.Rounds.{Exchange, connection, line_of, IsWhole, AreWhole, in_turn}
+use Rattle.adr_law_convergence.proofs.Wholes.{IsCycled, cycled}
 use Rattle.adr_run_exercise.specs.Summary.{four_names}
 use Rattle.adr_run_exercised.specs.Exercised.{four_pull, six_rounds}
 use Rattle.adr_run_exercised.proofs.Answered.{IsTold, pulls_told}

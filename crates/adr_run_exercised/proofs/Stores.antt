@@ -3,8 +3,8 @@ use Rattle.std.proofs.Common.{◌≡◌, ◌⊎◌, inl, inr, ⊎_elim, ℕ, Lis
 use Rattle.adr_call.specs.declared.outcome.Outcome.TheVariants as outcomes
 use Rattle.adr_call.specs.declared.refusal.AdoptRefusal.{AdoptRefusal}
 use Rattle.adr_call.specs.declared.write.Write.{Write as Asked}
-use Rattle.adr_event.specs.declared.event.Event.{Event}
-use Rattle.adr_event.specs.declared.event.Event.TheVariants as events
+use Rattle.adr_call.specs.declared.event.Event.{Event}
+use Rattle.adr_call.specs.declared.event.Event.TheVariants as events
 use Rattle.adr_model.specs.Member.{Member, Each}
 use Rattle.adr_model.specs.Update.{Identifier}
 use Rattle.adr_model.specs.Store.{Store, State, empty_state}
@@ -18,7 +18,7 @@ use Rattle.adr_model.specs.World.{Name, World, Gone, Sent, stays, nothing, bound
 use Rattle.adr_model.specs.Cycles.{pulls, reply_limit, pull_version}
 use Rattle.adr_model.specs.Step.{gives, step, after_lines}
 use Rattle.adr_model.proofs.Members.{member_of_either}
-use Rattle.adr_law_logs.proofs.Woken.{adopted_is_woken}
+use Rattle.adr_law_calls.proofs.Woken.{adopted_is_woken}
 use Rattle.adr_law_convergence.proofs.Called.{IsKeptBehind, writes_so, asks_so, serves_so, delivers_so, collects_so}
 use Rattle.adr_law_convergence.proofs.Exchanges.{IsKeptByCalls, worlds_alone, pull_so, pulls_so}
 use Rattle.adr_law_convergence.proofs.Found.{bound_member, each_bound, in_place}

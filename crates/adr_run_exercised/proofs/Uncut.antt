@@ -1,6 +1,6 @@
 -- A cycle of which no answer is a refusal, between controllers that are up, isn't cut off where fewer units were issued than it may take replies.
 use Rattle.std.proofs.Common.{◌≡◌, ◌≢◌, inl, inr, ⊎_elim, ℕ, zero, suc, ◌+◌, ◌<◌, ◌≤◌, List, [], ◌∷◌, ◌++◌, Bool, true, false, cond, Option, Some, None, refl, sym, ap, ◌∙◌, subst, codes, filter, length, arith}
-use Rattle.adr_event.specs.declared.answer.Answer.{Answer}
+use Rattle.adr_call.specs.declared.answer.Answer.{Answer}
 use Rattle.adr_call.specs.declared.outcome.Outcome.{Outcome}
 use Rattle.adr_call.specs.declared.outcome.Outcome.TheVariants as outcomes
 use Rattle.adr_model.specs.Member.{Member, Each}
@@ -15,8 +15,8 @@ use Rattle.adr_model.proofs.Members.{member_left, member_of_either}
 use Rattle.adr_law_convergence.proofs.Completing.{cycle_ends}
 use Rattle.adr_law_convergence.proofs.Cycling.{Goes}
 use Rattle.adr_law_convergence.proofs.Found.{replica_found}
-use Rattle.adr_law_rounds.specs.Rounds.{IsWhole}
-use Rattle.adr_law_rounds.proofs.Fine.{goes_where_fine}
+use Rattle.adr_law_convergence.specs.Rounds.{IsWhole}
+use Rattle.adr_law_convergence.proofs.Fine.{goes_where_fine}
 use Rattle.adr_run_exercise.specs.Summary.{refusals_in}
 use Rattle.adr_run_exercised.proofs.Answered.{IsTold, AllTold, pull_told}
 use Rattle.adr_run_exercised.proofs.Few.{AreOfFew, few_beyond}

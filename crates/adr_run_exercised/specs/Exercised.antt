@@ -1,12 +1,12 @@
 -- What is claimed of the end of the run of a generated schedule: its four controllers show the same directory.
 use Rattle.std.specs.Prelude.{◌≡◌, ◌≢◌, ◌<◌, ◌≤◌, ◌^◌, ◌++◌, ℕ, List, [], ◌∷◌, true, codes}
 use Rattle.adr_call.specs.declared.outcome.Outcome.TheVariants as outcomes
-use Rattle.adr_event.specs.declared.event.Event.{Event}
+use Rattle.adr_call.specs.declared.event.Event.{Event}
 use Rattle.adr_model.specs.Member.{Each}
 use Rattle.adr_model.specs.World.{Name, empty_world}
 use Rattle.adr_model.specs.Step.{answers}
 use Rattle.adr_model.specs.Convergence.{behind, AreUnlimited}
-use Rattle.adr_law_rounds.specs.Rounds.{Exchange, AreWhole, in_turn}
+use Rattle.adr_law_convergence.specs.Rounds.{Exchange, AreWhole, in_turn}
 use Rattle.adr_run_exercise.specs.Generated.{beginning, groups, rounds, persons, deletions, collections, schedule}
 use Rattle.adr_run_exercise.specs.Summary.{summary}
 

@@ -1,8 +1,8 @@
 //! How the run of a generated schedule ends: its four controllers show the same directory.
 //!
-//! Stands on the definitions of `adr_model` and of `adr_run_exercise`, on the laws of rounds (`adr_law_rounds`) and on what
-//! each line leaves of a sound world (`adr_law_convergence`). It knows nothing of the code that runs a schedule. Its
-//! functions have no code but the law that they cite.
+//! Stands on the definitions of `adr_model` and of `adr_run_exercise`, and on the laws of rounds and of what each line leaves
+//! of a sound world (`adr_law_convergence`). It knows nothing of the code that runs a schedule. Its functions have no code
+//! but the law that they cite.
 #![tactic(auto)]
 
 ghost use Rattle.adr_run_exercised.specs.Exercised.{ExercisesEndEqual, LastRoundsMakeEqual, UncutExercisesEndEqual, UnlimitedExercisesEndEqual};

@@ -12,10 +12,10 @@ use Rattle.adr_values.specs.declared.content.Value.{Value as Item}
 use Rattle.adr_call.specs.declared.write.Write.TheVariants.{Add, Modify}
 use Rattle.adr_call.specs.declared.report.Report.{Report as Asked}
 use Rattle.adr_call.specs.declared.report.Report.TheVariants.{Meta}
-use Rattle.adr_event.specs.declared.event.Event.{Event}
-use Rattle.adr_event.specs.declared.event.Event.TheVariants.{Write, Ring, StopAfter, Report}
-use Rattle.adr_event.specs.Verbs.{verb_of, word_of}
-use Rattle.adr_event.specs.declared.verb.Verb.{Verb}
+use Rattle.adr_call.specs.declared.event.Event.{Event}
+use Rattle.adr_call.specs.declared.event.Event.TheVariants.{Write, Ring, StopAfter, Report}
+use Rattle.adr_call.specs.Verbs.{verb_of, word_of}
+use Rattle.adr_call.specs.declared.verb.Verb.{Verb}
 use Rattle.adr_token.specs.Words.{unspaced}
 use Rattle.adr_token.specs.Texts.{ends_word}
 use Rattle.adr_token.specs.Spelled.{SpellsAttribute, SpellsClass, SpellsSet}

@@ -2,7 +2,7 @@
 use Rattle.std.specs.Prelude.{◌≡◌, ◌≤◌, ℕ, List, [], ◌∷◌, ◌++◌, length, map, flat_map, codes, Ok}
 use Rattle.std.specs.Fmt.{decimal}
 use Rattle.adr_values.specs.Assignments.{Given}
-use Rattle.adr_event.specs.declared.event.Event.{Event}
+use Rattle.adr_call.specs.declared.event.Event.{Event}
 use Rattle.adr_token.specs.Spelling.{attribute_token, class_token, identifier_token, set_token, text_token}
 use Rattle.adr_run_print.specs.declared.printing.Token.{Token as Piece}
 use Rattle.adr_run_print.specs.declared.printing.Token.TheVariants as pieces

@@ -7,9 +7,8 @@ ghost use Rattle.adr_schedule.specs.Grammar.{Attribute as attributed, Class as c
 ghost use Rattle.adr_run_print.specs.Printed.{line_of, printed, set_tokens, spaced, token_of, token_text};
 
 use Token::{Attribute, Class, Identifier, Name, Number, Quoted, Word};
-use adr_call::{Report, Write};
+use adr_call::{Event, Report, Write};
 use adr_disk::Crash;
-use adr_event::Event;
 use adr_schedule::crash_word;
 use adr_token::{
     push, push_attribute, push_class, push_identifier, push_number, push_set, push_text,

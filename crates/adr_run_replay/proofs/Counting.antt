@@ -4,8 +4,8 @@ use Rattle.std.specs.Prelude.{sum_by, codes}
 use Rattle.std.proofs.lemmas.List.Sums.{fold-append, sum_by-cons}
 use Rattle.adr_call.specs.declared.outcome.Outcome.{Outcome}
 use Rattle.adr_call.specs.declared.outcome.Outcome.TheVariants.{Refused, Removed}
-use Rattle.adr_event.specs.declared.answer.Answer.{Answer}
-use Rattle.adr_event.specs.declared.event.Event.{Event}
+use Rattle.adr_call.specs.declared.answer.Answer.{Answer}
+use Rattle.adr_call.specs.declared.event.Event.{Event}
 use Rattle.adr_model.specs.Rings.{show_alike}
 use Rattle.adr_model.specs.World.{World, empty_world}
 use Rattle.adr_model.specs.Step.{step, after_lines, answers}

@@ -12,7 +12,7 @@ use Rattle.adr_schedule.specs.declared.fault.Cause.TheVariants.{TooLong}
 use Rattle.adr_schedule.specs.Limits.{text_limit}
 use Rattle.adr_schedule.specs.Lines.{lines_of}
 use Rattle.adr_schedule.specs.Seen.{nothing_seen}
-use Rattle.adr_event.specs.declared.event.Event.{Event}
+use Rattle.adr_call.specs.declared.event.Event.{Event}
 use Rattle.adr_schedule.specs.declared.fault.ScheduleFault.{ScheduleFault}
 use Rattle.adr_schedule.specs.Events.{events_of, events_from, bad}
 use Rattle.adr_schedule.proofs.ScheduleLaws.{read_texts, schedules_read, refused_texts, faults_refused}

@@ -1,6 +1,6 @@
 -- What a text gives, as the walk over its lines finds it. No clause of `run` speaks of it.
 use Rattle.std.specs.Prelude.{ℕ, List, Result, Ok, Err}
-use Rattle.adr_event.specs.declared.event.Event.{Event}
+use Rattle.adr_call.specs.declared.event.Event.{Event}
 use Rattle.adr_schedule.specs.declared.fault.ScheduleFault.{ScheduleFault}
 use Rattle.adr_schedule.specs.Events.{events_of}
 use Rattle.adr_schedule.specs.Telling.{fault_line}

@@ -2,7 +2,7 @@
 
 ghost use Rattle.std.specs.Prelude.{◌≡◌, ◌⊎◌, ◌<◌, ◌≤◌, ◌++◌, All, IfOk, OnOk, codes, length, sum_by};
 ghost use Rattle.std.specs.Fmt.{decimal};
-ghost use Rattle.adr_event.specs.Supported.{IsSupported};
+ghost use Rattle.adr_call.specs.Supported.{IsSupported};
 ghost use Rattle.adr_law_recorded.specs.Typed.{AreTyped};
 ghost use Rattle.adr_model.specs.Convergence.{MayAllHappen};
 ghost use Rattle.adr_model.specs.Rings.{show_alike};
@@ -16,9 +16,8 @@ ghost use Rattle.adr_io.specs.Told.{Adds, AddsFront};
 
 use crate::replaying::ended;
 use adr_answers::{push_number_behind, truth_text};
-use adr_call::{Directory, Entry, Guids};
+use adr_call::{Directory, Entry, Event, Guids};
 use adr_checks::attribute_kind;
-use adr_event::Event;
 use adr_io::Sink;
 use adr_run_exercise::generate;
 use adr_run_world::{Tally, World};

@@ -4,12 +4,12 @@ ghost use Rattle.std.specs.Prelude.{ℕ, List};
 ghost use Rattle.adr_answers.specs.Laws.{EqualLinesMeanEqualDirectories};
 ghost use Rattle.adr_json.specs.Laws.{EqualJsonMeansEqualDirectories};
 ghost use Rattle.adr_run_exercised.specs.Exercised.{ExercisesEndEqual};
-ghost use Rattle.adr_law_exported.specs.Exportable.{TextsAreExportable};
+ghost use Rattle.adr_law_headline.specs.Exportable.{TextsAreExportable};
 ghost use Rattle.adr_law_headline.specs.Headline.{IsHeadline};
 ghost use Rattle.adr_run_replay.specs.Outcome.{GeneratedRunsAreSo, TextsGiveOne};
 
 use adr_json::equal_json_means_equal_directories;
-use adr_law_exported::directories_of_texts_are_exportable;
+use adr_law_headline::directories_of_texts_are_exportable;
 use adr_run_exercise::schedules_follow;
 use adr_run_exercised::exercises_end_equal;
 

@@ -3,7 +3,7 @@ use Rattle.std.proofs.Common.{◌≡◌, ◌∙◌, sym, ap, ℕ, List, [], ◌�
 use Rattle.std.specs.Prelude.{slice_get}
 use Rattle.adr_call.specs.declared.outcome.Outcome.{Outcome}
 use Rattle.adr_call.specs.declared.outcome.Outcome.TheVariants as outcomes
-use Rattle.adr_event.specs.declared.event.Event.TheVariants.{Install, Restore}
+use Rattle.adr_call.specs.declared.event.Event.TheVariants.{Install, Restore}
 use Rattle.adr_model.specs.Update.{Identifier}
 use Rattle.adr_model.specs.Replica.{Replica, begun, on_disk}
 use Rattle.adr_model.specs.World.{World, Name, Sent, Snapshot, of_made, put_back, replica_at, stays, with_replica}

@@ -2,9 +2,9 @@
 use Rattle.std.proofs.Common.{◌≡◌, sym, ap, subst, ℕ, List}
 use Rattle.std.proofs.lemmas.Result.{IfOk-weaker}
 use Rattle.std.specs.Prelude.{Result, IfOk}
-use Rattle.adr_event.specs.Verbs.{name_of, verb_of, word_of}
+use Rattle.adr_call.specs.Verbs.{name_of, verb_of, word_of}
 use Rattle.adr_call.specs.declared.outcome.Outcome.{Outcome}
-use Rattle.adr_event.specs.declared.event.Event.{Event}
+use Rattle.adr_call.specs.declared.event.Event.{Event}
 use Rattle.adr_model.specs.World.{Gone, Name, World}
 use Rattle.adr_model.specs.Step.{step, told}
 

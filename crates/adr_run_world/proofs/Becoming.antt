@@ -4,7 +4,7 @@ use Rattle.std.specs.Prelude.{Result, IfOk, slice_get, slice_index_or}
 use Rattle.std.proofs.lemmas.Result.{IfOk-weaker}
 use Rattle.adr_call.specs.declared.outcome.Outcome.{Outcome}
 use Rattle.adr_call.specs.declared.outcome.Outcome.TheVariants as outcomes
-use Rattle.adr_event.specs.declared.event.Event.TheVariants.{Start}
+use Rattle.adr_call.specs.declared.event.Event.TheVariants.{Start}
 use Rattle.adr_disk.specs.declared.memory.Plan.{Plan}
 use Rattle.adr_model.specs.Replica.{Replica, Up}
 use Rattle.adr_model.specs.World.{World, Name, Gone, Sent, replica_at, of_made, of_controller, where_up, stays, nothing, with_plan, with_replica}

@@ -1,8 +1,8 @@
 -- What is claimed of a line follows of what it does.
 use Rattle.std.proofs.Common.{◌≡◌, inl, inr, ℕ, List, Bool, true, false, sym, ap, ◌∙◌, subst}
-use Rattle.adr_event.specs.declared.answer.Answer.{Answer}
-use Rattle.adr_event.specs.declared.event.Event.{Event}
-use Rattle.adr_event.specs.declared.event.Event.TheVariants as events
+use Rattle.adr_call.specs.declared.answer.Answer.{Answer}
+use Rattle.adr_call.specs.declared.event.Event.{Event}
+use Rattle.adr_call.specs.declared.event.Event.TheVariants as events
 use Rattle.adr_model.specs.World.{World, Name}
 use Rattle.adr_model.specs.Cycles.{Pulled, pull, cycle}
 use Rattle.adr_model.specs.Step.{step}
@@ -13,8 +13,8 @@ use Rattle.adr_law_convergence.proofs.Acknowledged.{acknowledged_is_issued}
 use Rattle.adr_law_convergence.proofs.CutShort.{cut_short_sound}
 use Rattle.adr_law_convergence.proofs.Completing.{cycle_ends}
 use Rattle.adr_law_convergence.proofs.Found.{replica_found}
-use Rattle.adr_law_rounds.specs.Rounds.{RingsTell}
-use Rattle.adr_law_rounds.proofs.Telling.{rings_tell_true}
+use Rattle.adr_law_convergence.specs.Rounds.{RingsTell}
+use Rattle.adr_law_convergence.proofs.Telling.{rings_tell_true}
 use Rattle.adr_run_world.specs.declared.run.Run.{Run}
 use Rattle.adr_run_world.specs.Door.{IsCompletedBy}
 use Rattle.adr_run_world.specs.Rung.{IsRungBy}

@@ -3,12 +3,12 @@ use Rattle.std.proofs.Common.{◌≡◌, ◌⊎◌, inl, inr, ℕ, zero, suc, �
 use Rattle.std.specs.Prelude.{All, codes, nat_le}
 use Rattle.std.proofs.lemmas.Bool.{leb-true}
 use Rattle.std.proofs.lemmas.List.Elements.{All-append, All-cons, All-nil}
-use Rattle.adr_event.specs.declared.answer.Answer.{Answer}
-use Rattle.adr_event.specs.declared.event.Event.{Event}
-use Rattle.adr_event.specs.declared.event.Event.TheVariants as events
-use Rattle.adr_event.specs.declared.verb.Verb.{Verb}
-use Rattle.adr_event.specs.declared.verb.Verb.TheVariants as verbs
-use Rattle.adr_event.specs.Verbs.{verb_of_write, word_of}
+use Rattle.adr_call.specs.declared.answer.Answer.{Answer}
+use Rattle.adr_call.specs.declared.event.Event.{Event}
+use Rattle.adr_call.specs.declared.event.Event.TheVariants as events
+use Rattle.adr_call.specs.declared.verb.Verb.{Verb}
+use Rattle.adr_call.specs.declared.verb.Verb.TheVariants as verbs
+use Rattle.adr_call.specs.Verbs.{verb_of_write, word_of}
 use Rattle.adr_call.specs.declared.outcome.Outcome.{Outcome}
 use Rattle.adr_call.specs.declared.outcome.Outcome.TheVariants as outcomes
 use Rattle.adr_model.specs.Collect.{adopt, collect}

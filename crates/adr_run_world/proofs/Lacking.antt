@@ -1,9 +1,9 @@
 -- Where memory is wanting for a line of an answer, and not in the sink, nothing was done.
 use Rattle.std.proofs.Common.{◌≡◌, ◌⊎◌, inl, inr, refl, ℕ, ◌+◌, ◌≤◌, List, [], Option, Some, None, length, take, sym, ap, ◌∙◌, subst, arith}
 use Rattle.std.specs.Prelude.{All, flat_map}
-use Rattle.adr_event.specs.declared.answer.Answer.{Answer}
-use Rattle.adr_event.specs.declared.event.Event.{Event}
-use Rattle.adr_event.specs.declared.event.Event.TheVariants as events
+use Rattle.adr_call.specs.declared.answer.Answer.{Answer}
+use Rattle.adr_call.specs.declared.event.Event.{Event}
+use Rattle.adr_call.specs.declared.event.Event.TheVariants as events
 use Rattle.adr_call.specs.declared.report.Report.{Report}
 use Rattle.adr_io.specs.Told.{Adds}
 use Rattle.adr_law_convergence.proofs.Lines.{behind_is_on_the_way}

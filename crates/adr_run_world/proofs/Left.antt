@@ -1,9 +1,9 @@
 -- What a fault leaves of a line, by the turns that were done.
 use Rattle.std.proofs.Common.{◌≡◌, inl, inr, refl, ℕ, ◌+◌, List, [], ◌++◌, Bool, true, false, Option, take, sym, ap, subst}
 use Rattle.std.specs.Prelude.{flat_map}
-use Rattle.adr_event.specs.declared.answer.Answer.{Answer}
-use Rattle.adr_event.specs.declared.event.Event.{Event}
-use Rattle.adr_event.specs.declared.event.Event.TheVariants as events
+use Rattle.adr_call.specs.declared.answer.Answer.{Answer}
+use Rattle.adr_call.specs.declared.event.Event.{Event}
+use Rattle.adr_call.specs.declared.event.Event.TheVariants as events
 use Rattle.adr_io.specs.Told.{Adds, AddsFront}
 use Rattle.adr_model.specs.World.{World}
 use Rattle.adr_model.specs.Cycles.{Pulled}

@@ -1,7 +1,7 @@
 -- The answers of a pull, one behind another.
 use Rattle.std.proofs.Common.{◌≡◌, ◌∙◌, sym, ap, ℕ, List, [], ◌∷◌, ◌++◌, Option, Some, false, codes}
 use Rattle.std.proofs.lemmas.List.{append-nil, append_assoc}
-use Rattle.adr_event.specs.declared.answer.Answer.{Answer}
+use Rattle.adr_call.specs.declared.answer.Answer.{Answer}
 use Rattle.adr_call.specs.declared.outcome.Outcome.{Outcome}
 use Rattle.adr_model.specs.Serve.{Request, Reply}
 use Rattle.adr_model.specs.World.{Name, World, Sent, answer, asks, serves_request}

@@ -1,9 +1,9 @@
 -- Cycles pull by pull, and rings cycle by cycle.
 use Rattle.std.proofs.Common.{◌≡◌, inl, inr, ℕ, zero, suc, ◌+◌, ◌-◌, ◌<◌, ◌≤◌, List, [], ◌∷◌, ◌++◌, length, drop, drop-cons, get_or, Bool, true, false, Option, Some, None, refl, sym, ap, ◌∙◌, subst, codes, arith}
 use Rattle.std.specs.Prelude.{slice_get}
-use Rattle.adr_event.specs.declared.answer.Answer.{Answer}
+use Rattle.adr_call.specs.declared.answer.Answer.{Answer}
 use Rattle.adr_call.specs.declared.outcome.Outcome.TheVariants as outcomes
-use Rattle.adr_event.specs.declared.event.Event.TheVariants as events
+use Rattle.adr_call.specs.declared.event.Event.TheVariants as events
 use Rattle.adr_model.specs.World.{World, Name, answer}
 use Rattle.adr_model.specs.Cycles.{Pulled, and_then, pull, pulls, cycle}
 use Rattle.adr_model.specs.Rings.{unfinished, or_else, Connection, cycles, last_of, in_line, ring, times, show_alike, vectors_alike, compared, rings}

@@ -2,7 +2,7 @@
 use Rattle.std.specs.Prelude.{◌+◌, List, fold}
 use Rattle.adr_call.specs.declared.outcome.Outcome.{Outcome}
 use Rattle.adr_call.specs.declared.outcome.Outcome.TheVariants.{Refused, Removed}
-use Rattle.adr_event.specs.declared.answer.Answer.{Answer}
+use Rattle.adr_call.specs.declared.answer.Answer.{Answer}
 use Rattle.adr_run_world.specs.declared.counting.Tally.{Tally}
 
 abbrev pub with_outcome : Tally → Outcome → Tally

@@ -1,6 +1,6 @@
 -- What a run of events writes.
 use Rattle.std.specs.Prelude.{ℕ, List, flat_map}
-use Rattle.adr_event.specs.declared.event.Event.{Event}
+use Rattle.adr_call.specs.declared.event.Event.{Event}
 use Rattle.adr_model.specs.World.{World}
 use Rattle.adr_model.specs.Step.{answers}
 use Rattle.adr_answers.specs.Line.{line}

@@ -1,8 +1,8 @@
 -- How much room is made for the lines of answers, before the calls of a turn.
 use Rattle.std.specs.Prelude.{ℕ, ◌+◌, length}
-use Rattle.adr_event.specs.declared.event.Event.{Event}
-use Rattle.adr_event.specs.declared.event.Event.TheVariants as events
-use Rattle.adr_event.specs.Verbs.{name_of}
+use Rattle.adr_call.specs.declared.event.Event.{Event}
+use Rattle.adr_call.specs.declared.event.Event.TheVariants as events
+use Rattle.adr_call.specs.Verbs.{name_of}
 
 -- the names that its answers may have; a `time` has no answer, and for a ring's no room is made
 abbrev pub names_room : Event → ℕ

@@ -1,7 +1,7 @@
 -- What is left of a line, or of one of its turns, that wanted memory.
 use Rattle.std.specs.Prelude.{◌≡◌, ◌≢◌, ◌⊎◌, Some}
-use Rattle.adr_event.specs.declared.event.Event.{Event}
-use Rattle.adr_event.specs.declared.event.Event.TheVariants as events
+use Rattle.adr_call.specs.declared.event.Event.{Event}
+use Rattle.adr_call.specs.declared.event.Event.TheVariants as events
 use Rattle.adr_model.specs.Replica.{Replica, Up}
 use Rattle.adr_model.specs.World.{World, replica_at}
 use Rattle.adr_model.specs.Convergence.{IsOnTheWay}

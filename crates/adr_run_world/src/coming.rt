@@ -2,7 +2,7 @@
 
 ghost use Rattle.std.specs.Prelude.{◌≡◌, ◌+◌, ◌≤◌, ◌++◌, ◌∷◌, [], codes, vec_len, IfOk, OnErr};
 ghost use Rattle.std.specs.Vec.{vec_capacity};
-ghost use Rattle.adr_event.specs.declared.event.Event.TheVariants.{Controller as NewController};
+ghost use Rattle.adr_call.specs.declared.event.Event.TheVariants.{Controller as NewController};
 ghost use Rattle.adr_wire.specs.Ranges.{IsId};
 ghost use Rattle.adr_model.specs.Convergence.{IsNewName};
 ghost use Rattle.adr_model.specs.Replica.{Up, begun};

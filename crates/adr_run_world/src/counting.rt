@@ -1,7 +1,7 @@
 //! Lines whose answers are counted, and not written.
 
 ghost use Rattle.std.specs.Prelude.{◌≡◌, OnOk};
-ghost use Rattle.adr_event.specs.Supported.{IsSupported};
+ghost use Rattle.adr_call.specs.Supported.{IsSupported};
 ghost use Rattle.adr_law_recorded.specs.Typed.{IsTyped};
 ghost use Rattle.adr_model.specs.Convergence.{MayHappen};
 ghost use Rattle.adr_model.specs.Step.{step};
@@ -10,8 +10,7 @@ ghost use Rattle.adr_run_world.specs.Run.{IsSoundRun, world_of};
 
 use crate::pulling::REPLY_LIMIT;
 use crate::run::Run;
-use adr_call::Outcome;
-use adr_event::{Answer, Event};
+use adr_call::{Answer, Event, Outcome};
 use adr_values::NoMemory;
 use std::alloc::{AllocError, Global};
 

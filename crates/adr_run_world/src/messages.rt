@@ -1,7 +1,7 @@
 //! Requests and replies.
 
 ghost use Rattle.std.specs.Prelude.{◌≡◌, Some, codes, IfOk, IfSome, OnErr};
-ghost use Rattle.adr_event.specs.declared.event.Event.TheVariants.{Ask, Serve};
+ghost use Rattle.adr_call.specs.declared.event.Event.TheVariants.{Ask, Serve};
 ghost use Rattle.adr_model.specs.Spelled.{IsSpelledReply};
 ghost use Rattle.adr_law_recorded.specs.Ranged.{IsRangedReply, IsRangedRequest};
 ghost use Rattle.adr_model.specs.Convergence.{IsUnbound};

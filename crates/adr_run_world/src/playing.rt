@@ -1,7 +1,7 @@
 //! Running events, whose answers are written as they come.
 
 ghost use Rattle.std.specs.Prelude.{◌<◌, ◌≤◌, All, OnOk, OnErr, IsErrOf};
-ghost use Rattle.adr_event.specs.Supported.{IsSupported};
+ghost use Rattle.adr_call.specs.Supported.{IsSupported};
 ghost use Rattle.adr_io.specs.Told.{Adds, AddsFront};
 ghost use Rattle.adr_law_recorded.specs.Typed.{AreTyped};
 ghost use Rattle.adr_model.specs.Convergence.{MayAllHappen};
@@ -9,7 +9,7 @@ ghost use Rattle.adr_model.specs.World.{empty_world};
 ghost use Rattle.adr_run_world.specs.Played.{output_from};
 
 use crate::world::World;
-use adr_event::Event;
+use adr_call::Event;
 use adr_io::{Fault, Sink};
 use std::alloc::Global;
 use std::mem::forget;

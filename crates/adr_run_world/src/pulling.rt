@@ -12,9 +12,8 @@ ghost use Rattle.adr_run_world.specs.Run.{IsTidy, world_of};
 use crate::lists::put;
 use crate::run::Run;
 use adr_answers::Heading;
-use adr_call::Outcome;
+use adr_call::{Answer, Outcome};
 use adr_cycle::{Reply, Request};
-use adr_event::Answer;
 use adr_values::{NoMemory, Text};
 use std::alloc::Global;
 

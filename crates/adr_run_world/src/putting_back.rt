@@ -1,7 +1,7 @@
 //! Disks that are put aside, and put back.
 
 ghost use Rattle.std.specs.Prelude.{◌≡◌, codes, IfOk, OnErr};
-ghost use Rattle.adr_event.specs.declared.event.Event.TheVariants.{Snapshot as PutAside};
+ghost use Rattle.adr_call.specs.declared.event.Event.TheVariants.{Snapshot as PutAside};
 ghost use Rattle.adr_model.specs.Convergence.{IsUnbound};
 ghost use Rattle.adr_model.specs.Step.{step, told};
 ghost use Rattle.adr_model.specs.World.{bound_at, of_made, put_back, replica_at, stays};

@@ -2,7 +2,7 @@
 
 ghost use Rattle.std.specs.Prelude.{◌≡◌, ◌<◌, ◌∷◌, [], codes, length, slice_set, IfOk, IsErrOf, OnErr};
 ghost use Rattle.adr_call.specs.declared.outcome.Outcome.{Outcome};
-ghost use Rattle.adr_event.specs.declared.event.Event.TheVariants.{Backup, Install, Restore};
+ghost use Rattle.adr_call.specs.declared.event.Event.TheVariants.{Backup, Install, Restore};
 ghost use Rattle.adr_wire.specs.Ranges.{IsId};
 ghost use Rattle.adr_model.specs.Convergence.{IsNewName, IsUnbound};
 ghost use Rattle.adr_model.specs.Replica.{Up, begun};

@@ -10,8 +10,7 @@ use crate::lists::put;
 use crate::pulling::REPLY_LIMIT;
 use crate::run::Run;
 use adr_answers::Heading;
-use adr_call::Outcome;
-use adr_event::{Answer, Names};
+use adr_call::{Answer, Names, Outcome};
 use adr_values::{NoMemory, Text};
 use std::alloc::Global;
 

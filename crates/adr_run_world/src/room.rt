@@ -4,7 +4,7 @@ ghost use Rattle.std.specs.Prelude.{◌≡◌, ◌+◌, ◌≤◌, OnOk, IfOk, l
 ghost use Rattle.adr_run_world.specs.Room.{names_room, room_beside};
 
 use adr_answers::name_of;
-use adr_event::Event;
+use adr_call::Event;
 use adr_values::{NoMemory, Text};
 use std::alloc::Global;
 

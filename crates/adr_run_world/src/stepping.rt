@@ -1,8 +1,8 @@
 //! What each line does, by its kind.
 
 ghost use Rattle.std.specs.Prelude.{◌≡◌, ◌<◌, ◌≤◌, ◌⊎◌, IfOk, OnErr, OnOk, IsErrOf, flat_map};
-ghost use Rattle.adr_event.specs.Supported.{IsSupported};
-ghost use Rattle.adr_event.specs.Verbs.{name_of, verb_of, word_of};
+ghost use Rattle.adr_call.specs.Supported.{IsSupported};
+ghost use Rattle.adr_call.specs.Verbs.{name_of, verb_of, word_of};
 ghost use Rattle.adr_io.specs.Told.{Adds, AddsFront};
 ghost use Rattle.adr_law_recorded.specs.Typed.{IsTyped};
 ghost use Rattle.adr_model.specs.Convergence.{MayHappen};
@@ -20,8 +20,7 @@ use crate::pulling::REPLY_LIMIT;
 use crate::room::room_for;
 use crate::run::Run;
 use adr_answers::{Heading, name_of, tell};
-use adr_call::Outcome;
-use adr_event::{Answer, Event};
+use adr_call::{Answer, Event, Outcome};
 use adr_io::{Fault, Sink};
 use adr_values::NoMemory;
 use std::alloc::Global;

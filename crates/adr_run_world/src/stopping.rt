@@ -1,15 +1,14 @@
 //! Controllers that stop, fail and start.
 
 ghost use Rattle.std.specs.Prelude.{◌≡◌, IfOk, OnErr};
-ghost use Rattle.adr_event.specs.declared.event.Event.TheVariants.{Start};
+ghost use Rattle.adr_call.specs.declared.event.Event.TheVariants.{Start};
 ghost use Rattle.adr_disk.specs.declared.memory.Mishap.TheVariants.{Fails, Stops};
 ghost use Rattle.adr_model.specs.World.{of_made, replica_at, starts, stays, stops, with_plan};
 ghost use Rattle.adr_run_world.specs.Run.{IsTidy, world_of};
 ghost use Rattle.adr_run_world.specs.Short.{IsCutShort};
 
 use crate::run::Run;
-use adr_call::Outcome;
-use adr_event::Crash;
+use adr_call::{Crash, Outcome};
 use adr_values::{NoMemory, Text};
 
 impl Run {

@@ -1,7 +1,7 @@
 //! The world of a run.
 
 ghost use Rattle.std.specs.Prelude.{◌≡◌, ◌<◌, ◌≤◌, ◌⊎◌, ◌∷◌, true, IfOk, OnErr, OnOk, IsErrOf, flat_map};
-ghost use Rattle.adr_event.specs.Supported.{IsSupported};
+ghost use Rattle.adr_call.specs.Supported.{IsSupported};
 ghost use Rattle.adr_io.specs.Told.{Adds, AddsFront};
 ghost use Rattle.adr_law_recorded.specs.Typed.{IsTyped};
 ghost use Rattle.adr_model.specs.Convergence.{AreAcknowledged, MayHappen, OwnIsInView, ShowAlike, ShowWhatIsVisible};
@@ -17,7 +17,7 @@ ghost use Rattle.adr_run_world.specs.Rung.{IsRungBy};
 
 use crate::counting::Tally;
 use crate::run::Run;
-use adr_event::Event;
+use adr_call::Event;
 use adr_io::{Fault, Sink};
 use adr_values::{NoMemory, Text};
 use adr_view::Directory;

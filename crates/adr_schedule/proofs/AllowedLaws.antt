@@ -1,10 +1,10 @@
 -- An event that a line spells is allowed, and the program does it.
 use Rattle.std.proofs.Common.{◌≡◌, ℕ, List, [], ◌∷◌, Some}
 use Rattle.adr_values.specs.Assignments.{Given}
-use Rattle.adr_event.specs.declared.event.Event.{Event}
+use Rattle.adr_call.specs.declared.event.Event.{Event}
 use Rattle.adr_call.specs.declared.write.Write.TheVariants.{Add, Modify}
-use Rattle.adr_event.specs.declared.event.Event.TheVariants.{Write, Ask, Upgrade, Revive}
-use Rattle.adr_event.specs.Supported.{IsSupported}
+use Rattle.adr_call.specs.declared.event.Event.TheVariants.{Write, Ask, Upgrade, Revive}
+use Rattle.adr_call.specs.Supported.{IsSupported}
 use Rattle.adr_schedule.specs.Sets.{rising}
 use Rattle.adr_schedule.specs.Grammar.{Token, given_by, tokens_behind, tokens_in, AreSpelled, HasLine, HaveSpellings, SpelledEventsAreAllowed}
 use Rattle.adr_schedule.proofs.RisingLemmas.{spelled_rising}

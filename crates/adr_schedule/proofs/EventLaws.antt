@@ -10,9 +10,9 @@ use Rattle.adr_call.specs.declared.write.Write.{Write as Written}
 use Rattle.adr_call.specs.declared.write.Write.TheVariants.{Add, Modify, Rename, Delete, Link, Unlink}
 use Rattle.adr_call.specs.declared.report.Report.{Report as Asked}
 use Rattle.adr_call.specs.declared.report.Report.TheVariants.{Directory, Vector, Marks, Meta}
-use Rattle.adr_event.specs.declared.event.Event.{Event}
-use Rattle.adr_event.specs.declared.event.Event.TheVariants.{Controller, Time, Write, Ask, Serve, Deliver, Pull, Cycle, Ring, Collect, Upgrade, Revive, Backup, Restore, Install, Snapshot, Rollback, StopAfter, Fail, Stop, Start, Report}
-use Rattle.adr_event.specs.Verbs.{verb_of, verb_of_report, word_of}
+use Rattle.adr_call.specs.declared.event.Event.{Event}
+use Rattle.adr_call.specs.declared.event.Event.TheVariants.{Controller, Time, Write, Ask, Serve, Deliver, Pull, Cycle, Ring, Collect, Upgrade, Revive, Backup, Restore, Install, Snapshot, Rollback, StopAfter, Fail, Stop, Start, Report}
+use Rattle.adr_call.specs.Verbs.{verb_of, verb_of_report, word_of}
 use Rattle.adr_token.specs.Gives.{◌>>=◌}
 use Rattle.adr_token.specs.Words.{unspaced, ended, word_at, name_at}
 use Rattle.adr_token.specs.Numbers.{number_at}
@@ -21,8 +21,8 @@ use Rattle.adr_token.specs.Classes.{attribute_at, class_at}
 use Rattle.adr_token.specs.Texts.{text_at}
 use Rattle.adr_token.proofs.Lists.{found}
 use Rattle.adr_token.proofs.WordLaws.{if_some}
-use Rattle.adr_event.specs.declared.verb.Verb.{Verb}
-use Rattle.adr_event.specs.declared.verb.Verb.TheVariants as verbs
+use Rattle.adr_call.specs.declared.verb.Verb.{Verb}
+use Rattle.adr_call.specs.declared.verb.Verb.TheVariants as verbs
 use Rattle.adr_schedule.specs.Limits.{plan_limit}
 use Rattle.adr_schedule.specs.Crashes.{crash_word}
 use Rattle.adr_schedule.specs.Sets.{rising, sets_at}

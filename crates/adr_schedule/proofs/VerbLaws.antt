@@ -2,9 +2,9 @@
 use Rattle.std.proofs.Common.{◌≡◌, ℕ, ◌<◌, Bool, true, false, not, ◌&&◌, List, [], ◌∷◌, ◌++◌, length, refl, arith}
 use Rattle.std.specs.Prelude.{◌==◌}
 use Rattle.std.proofs.lemmas.Bool.{and_parts, ne_eqb, not-true}
-use Rattle.adr_event.specs.Verbs.{word_of}
-use Rattle.adr_event.specs.declared.verb.Verb.{Verb}
-use Rattle.adr_event.specs.declared.verb.Verb.TheVariants.{Controller}
+use Rattle.adr_call.specs.Verbs.{word_of}
+use Rattle.adr_call.specs.declared.verb.Verb.{Verb}
+use Rattle.adr_call.specs.declared.verb.Verb.TheVariants.{Controller}
 use Rattle.adr_token.specs.Gives.{◌>>=◌}
 use Rattle.adr_token.proofs.WordLaws.{are_graphic, graphic_word}
 use Rattle.adr_schedule.specs.Verbs.{verb_said}

@@ -7,8 +7,8 @@ use Rattle.adr_call.specs.declared.write.Write.{Write as Written}
 use Rattle.adr_call.specs.declared.write.Write.TheVariants.{Add, Modify, Rename, Delete, Link, Unlink}
 use Rattle.adr_call.specs.declared.report.Report.{Report as Asked}
 use Rattle.adr_call.specs.declared.report.Report.TheVariants as reports
-use Rattle.adr_event.specs.declared.event.Event.{Event}
-use Rattle.adr_event.specs.declared.event.Event.TheVariants.{Controller, Time, Write, Ask, Serve, Deliver, Pull, Cycle, Ring, Collect, Backup, Restore, Install, Snapshot, Rollback, StopAfter, Fail, Stop, Start, Report}
+use Rattle.adr_call.specs.declared.event.Event.{Event}
+use Rattle.adr_call.specs.declared.event.Event.TheVariants.{Controller, Time, Write, Ask, Serve, Deliver, Pull, Cycle, Ring, Collect, Backup, Restore, Install, Snapshot, Rollback, StopAfter, Fail, Stop, Start, Report}
 use Rattle.adr_schedule.specs.Limits.{ask_limit, plan_limit, rounds_limit}
 use Rattle.adr_schedule.specs.Members.{names_at}
 use Rattle.adr_token.specs.Gives.{Reading, ◌>>=◌}
@@ -17,8 +17,8 @@ use Rattle.adr_token.specs.Numbers.{number_at}
 use Rattle.adr_token.specs.Identifiers.{identifier_at}
 use Rattle.adr_token.specs.Classes.{attribute_at, class_at}
 use Rattle.adr_token.specs.Texts.{text_at}
-use Rattle.adr_event.specs.declared.verb.Verb.{Verb}
-use Rattle.adr_event.specs.declared.verb.Verb.TheVariants as verbs
+use Rattle.adr_call.specs.declared.verb.Verb.{Verb}
+use Rattle.adr_call.specs.declared.verb.Verb.TheVariants as verbs
 use Rattle.adr_schedule.specs.Crashes.{crash_of}
 use Rattle.adr_schedule.specs.Sets.{sets_at}
 use Rattle.adr_schedule.specs.Verbs.{verb_said}

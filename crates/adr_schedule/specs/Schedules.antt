@@ -1,8 +1,8 @@
 -- The grammar of a text: its lines spell its events one after the other, or one of them is the first bad line.
 use Rattle.std.specs.Prelude.{◌≡◌, ◌⊎◌, ◌≤◌, ◌<◌, ◌+◌, List, [], ◌∷◌, ℕ, length, All, true, false, Some, None, Ok, Err}
 use Rattle.std.specs.Str.{is_utf8}
-use Rattle.adr_event.specs.Supported.{IsSupported}
-use Rattle.adr_event.specs.declared.event.Event.{Event}
+use Rattle.adr_call.specs.Supported.{IsSupported}
+use Rattle.adr_call.specs.declared.event.Event.{Event}
 use Rattle.adr_schedule.specs.declared.fault.Cause.{Cause}
 use Rattle.adr_schedule.specs.declared.fault.Cause.TheVariants.{NotUtf8, NoCommand, TooLong}
 use Rattle.adr_schedule.specs.declared.fault.ScheduleFault.{ScheduleFault}

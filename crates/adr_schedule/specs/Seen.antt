@@ -4,8 +4,8 @@ use Rattle.std.specs.Bool.{then_some}
 use Rattle.std.specs.List.{list_any}
 use Rattle.std.specs.Str.{bytes_eq}
 use Rattle.adr_values.specs.First.{first_of}
-use Rattle.adr_event.specs.declared.event.Event.{Event}
-use Rattle.adr_event.specs.declared.event.Event.TheVariants.{Controller, Time, Write, Ask, Serve, Deliver, Pull, Cycle, Ring, Collect, Upgrade, Revive, Backup, Restore, Install, Snapshot, Rollback, StopAfter, Fail, Stop, Start, Report}
+use Rattle.adr_call.specs.declared.event.Event.{Event}
+use Rattle.adr_call.specs.declared.event.Event.TheVariants.{Controller, Time, Write, Ask, Serve, Deliver, Pull, Cycle, Ring, Collect, Upgrade, Revive, Backup, Restore, Install, Snapshot, Rollback, StopAfter, Fail, Stop, Start, Report}
 use Rattle.adr_schedule.specs.declared.fault.Cause.{Cause}
 use Rattle.adr_schedule.specs.declared.fault.Cause.TheVariants.{UnknownName, NameUsed, IdentifierUsed, TooMany}
 use Rattle.adr_schedule.specs.Limits.{controller_limit}

@@ -2,8 +2,8 @@
 use Rattle.std.specs.Prelude.{ℕ, List}
 use Rattle.adr_call.specs.declared.write.Write.{Write}
 use Rattle.adr_call.specs.declared.write.Write.TheVariants.{Link, Unlink}
-use Rattle.adr_event.specs.declared.event.Event.{Event}
-use Rattle.adr_event.specs.declared.event.Event.TheVariants.{Deliver, Pull, Cycle, Backup, Snapshot, Rollback}
+use Rattle.adr_call.specs.declared.event.Event.{Event}
+use Rattle.adr_call.specs.declared.event.Event.TheVariants.{Deliver, Pull, Cycle, Backup, Snapshot, Rollback}
 use Rattle.adr_schedule.specs.declared.verb.UseVerb.{UseVerb}
 use Rattle.adr_schedule.specs.declared.verb.UseVerb.TheVariants as use_verbs
 use Rattle.adr_schedule.specs.declared.verb.LinkVerb.{LinkVerb}

@@ -1,5 +1,5 @@
 //! Schedules: the events that the lines of a text stand for, or its first fault and the line that tells it. It stands
-//! on the tokens of `adr_token` and the events of `adr_event`, and knows nothing of what an event does.
+//! on the tokens of `adr_token` and the events of `adr_call`, and knows nothing of what an event does.
 #![tactic(auto)]
 
 mod commands;
@@ -16,8 +16,7 @@ mod sets;
 mod telling;
 mod verb;
 
-pub use adr_call::Failure;
-pub use adr_event::Event;
+pub use adr_call::{Event, Failure};
 pub use commands::{event_of, is_passed};
 pub use crashes::crash_word;
 pub use fault::{Cause, ScheduleFault};

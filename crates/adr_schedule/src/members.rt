@@ -5,7 +5,7 @@ ghost use Rattle.adr_token.specs.Gives.{Answers, Stops};
 ghost use Rattle.adr_schedule.specs.Members.{is_member, names_at, with_name};
 
 use crate::limits::CONTROLLER_LIMIT;
-use adr_event::Names;
+use adr_call::Names;
 use adr_token::{Bad, Line, Stop};
 use adr_values::{Failure, Text};
 use std::alloc::Global;

@@ -2,7 +2,7 @@
 
 ghost use Rattle.std.specs.Prelude.{◌≡◌, ◌≤◌, [], Ok, Err, IfOk, IfErr, OnOk, ◌++◌, All, length};
 ghost use Rattle.std.specs.Option.{option_to_list};
-ghost use Rattle.adr_event.specs.Supported.{IsSupported};
+ghost use Rattle.adr_call.specs.Supported.{IsSupported};
 ghost use Rattle.adr_schedule.specs.Faults.{Refuses};
 ghost use Rattle.adr_schedule.specs.Limits.{text_limit};
 ghost use Rattle.adr_schedule.specs.Seen.{nothing_seen, IsFollowing};
@@ -13,8 +13,7 @@ use crate::fault::{Cause, ScheduleFault};
 use crate::limits::TEXT_LIMIT;
 use crate::lines::first_line;
 use crate::seen::Seen;
-use adr_call::Failure;
-use adr_event::Event;
+use adr_call::{Event, Failure};
 use adr_token::utf8;
 use std::alloc::Global;
 

@@ -8,8 +8,7 @@ ghost use Rattle.adr_schedule.specs.Seen.{nothing_seen, is_bound, is_any_unbound
 use crate::fault::Cause;
 use crate::limits::CONTROLLER_LIMIT;
 use crate::names::Names;
-use adr_call::Failure;
-use adr_event::Event;
+use adr_call::{Event, Failure};
 use adr_values::{Guid, Text};
 use std::alloc::Global;
 use std::marker::Model;

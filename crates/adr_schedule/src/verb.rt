@@ -3,7 +3,7 @@
 ghost use Rattle.std.specs.Prelude.{◌≡◌};
 ghost use Rattle.adr_schedule.specs.Verbs.{verb_said};
 
-use adr_event::Verb;
+use adr_call::Verb;
 
 /// A verb by which a controller uses what a name stands for.
 #[derive(Clone, Copy)]

@@ -1,8 +1,8 @@
 -- What a client's line says may be done.
 use Rattle.std.proofs.Common.{◌≡◌, List, ℕ, Option, Some, None, IfSome}
 use Rattle.std.specs.Option.{option_and_then}
-use Rattle.adr_event.specs.declared.event.Event.{Event}
-use Rattle.adr_event.specs.declared.event.Event.TheVariants as events
+use Rattle.adr_call.specs.declared.event.Event.{Event}
+use Rattle.adr_call.specs.declared.event.Event.TheVariants as events
 use Rattle.adr_schedule.specs.Commands.{event_of}
 use Rattle.adr_session.specs.Said.{LinesSayGivenCalls}
 use Rattle.adr_session.specs.Lines.{IsGivenDeed, deed_of, named}

@@ -1,7 +1,7 @@
 -- What a line says, some line spells; so it is typed, and its values are given as a client's are.
 use Rattle.std.proofs.Common.{◌≡◌, ℕ, List, Some}
-use Rattle.adr_event.specs.declared.event.Event.{Event}
-use Rattle.adr_event.specs.declared.event.Event.TheVariants.{Write}
+use Rattle.adr_call.specs.declared.event.Event.{Event}
+use Rattle.adr_call.specs.declared.event.Event.TheVariants.{Write}
 use Rattle.adr_schedule.specs.Commands.{event_of}
 use Rattle.adr_schedule.specs.Grammar.{IsAllowed}
 use Rattle.adr_schedule.proofs.AllowedLaws.{spelled_allowed}

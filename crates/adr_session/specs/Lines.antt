@@ -6,11 +6,11 @@ use Rattle.adr_call.specs.declared.outcome.Outcome.{Outcome}
 use Rattle.adr_call.specs.declared.outcome.Outcome.TheVariants as outcomes
 use Rattle.adr_call.specs.declared.refusal.CollectRefusal.{CollectRefusal}
 use Rattle.adr_call.specs.declared.refusal.WriteRefusal.{WriteRefusal}
-use Rattle.adr_event.specs.declared.event.Event.{Event}
-use Rattle.adr_event.specs.declared.event.Event.TheVariants as events
-use Rattle.adr_event.specs.declared.verb.Verb.{Verb}
-use Rattle.adr_event.specs.declared.verb.Verb.TheVariants as verbs
-use Rattle.adr_event.specs.Verbs.{verb_of_write}
+use Rattle.adr_call.specs.declared.event.Event.{Event}
+use Rattle.adr_call.specs.declared.event.Event.TheVariants as events
+use Rattle.adr_call.specs.declared.verb.Verb.{Verb}
+use Rattle.adr_call.specs.declared.verb.Verb.TheVariants as verbs
+use Rattle.adr_call.specs.Verbs.{verb_of_write}
 use Rattle.adr_token.specs.Words.{word_at}
 use Rattle.adr_schedule.specs.Commands.{event_of}
 use Rattle.adr_model.specs.Change.{Change}

@@ -1,8 +1,8 @@
 -- What a single line says, whatever other lines say.
 use Rattle.std.specs.Prelude.{◌≡◌, ◌<◌, ◌^◌, ℕ, List, Some}
 use Rattle.adr_call.specs.declared.write.Write.{Write as Asked}
-use Rattle.adr_event.specs.declared.event.Event.{Event}
-use Rattle.adr_event.specs.declared.event.Event.TheVariants.{Write}
+use Rattle.adr_call.specs.declared.event.Event.{Event}
+use Rattle.adr_call.specs.declared.event.Event.TheVariants.{Write}
 use Rattle.adr_schedule.specs.Commands.{event_of}
 use Rattle.adr_law_recorded.specs.Typed.{IsTyped}
 use Rattle.adr_law_controller.specs.Called.{IsGivenCall, Writes}

@@ -5,7 +5,7 @@ use Rattle.adr_call.specs.declared.refusal.ServeRefusal.{ServeRefusal}
 use Rattle.adr_call.specs.declared.refusal.ServeRefusal.TheVariants as serves
 use Rattle.adr_call.specs.declared.refusal.Table.TheVariants.{Log}
 use Rattle.adr_wire.specs.declared.refusal.DecodeRefusal.{DecodeRefusal}
-use Rattle.adr_event.specs.Verbs.{word_of}
+use Rattle.adr_call.specs.Verbs.{word_of}
 use Rattle.adr_answers.specs.Line.{nameless_line}
 use Rattle.adr_model.specs.Change.{Change, after}
 use Rattle.adr_model.specs.Collect.{quarantine}

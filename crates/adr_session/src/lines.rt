@@ -5,8 +5,7 @@ ghost use Rattle.adr_token.specs.Gives.{Answers};
 ghost use Rattle.adr_session.specs.Lines.{IsGivenDeed, deed_of, deed_said, event_said, named, verb_of_deed};
 
 use crate::line_laws::lines_say_given_calls;
-use adr_call::{Failure, Write};
-use adr_event::{Event, Verb, verb_of_write};
+use adr_call::{Event, Failure, Verb, Write, verb_of_write};
 use adr_schedule::event_of;
 use adr_token::{Line, Stop, utf8};
 use adr_values::NoMemory;

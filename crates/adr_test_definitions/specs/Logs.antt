@@ -1,9 +1,9 @@
 -- Logs that are nearly full, and disks that are put back with their logs.
 use Rattle.std.specs.Prelude.{ℕ, ◌-◌, false, List, [], ◌∷◌, Option, codes}
 use Rattle.std.specs.Option.{option_map}
-use Rattle.adr_event.specs.declared.event.Event.{Event}
-use Rattle.adr_event.specs.declared.event.Event.TheVariants.{Serve, Snapshot, Rollback, Report}
-use Rattle.adr_event.specs.declared.answer.Answer.{Answer}
+use Rattle.adr_call.specs.declared.event.Event.{Event}
+use Rattle.adr_call.specs.declared.event.Event.TheVariants.{Serve, Snapshot, Rollback, Report}
+use Rattle.adr_call.specs.declared.answer.Answer.{Answer}
 use Rattle.adr_call.specs.declared.report.Report.TheVariants.{Directory}
 use Rattle.adr_call.specs.declared.outcome.Plainly.TheVariants.{Number, Word}
 use Rattle.adr_call.specs.declared.outcome.Outcome.TheVariants as outcomes

@@ -1,9 +1,9 @@
 -- Runs with times, with two schemas, and with an object of an image that comes again.
 use Rattle.std.specs.Prelude.{true, pos, ℕ, List, [], ◌∷◌, ◌++◌, codes}
 use Rattle.adr_values.specs.declared.content.Value.TheVariants.{Text, Number as Integer}
-use Rattle.adr_event.specs.declared.event.Event.{Event}
-use Rattle.adr_event.specs.declared.event.Event.TheVariants as events
-use Rattle.adr_event.specs.declared.answer.Answer.{Answer}
+use Rattle.adr_call.specs.declared.event.Event.{Event}
+use Rattle.adr_call.specs.declared.event.Event.TheVariants as events
+use Rattle.adr_call.specs.declared.answer.Answer.{Answer}
 use Rattle.adr_call.specs.declared.write.Write.TheVariants as writes
 use Rattle.adr_call.specs.declared.report.Report.TheVariants as reports
 use Rattle.adr_call.specs.declared.outcome.Plainly.TheVariants.{Id, Number}

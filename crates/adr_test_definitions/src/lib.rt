@@ -21,7 +21,7 @@ ghost use Rattle.adr_test_definitions.specs.Exchanges.{cut_and_cycle, cut_and_cy
 ghost use Rattle.adr_model.specs.Step.{after_lines, answers};
 ghost use Rattle.adr_model.specs.World.{empty_world};
 ghost use Rattle.adr_test_definitions.specs.Answered.{first_person, first_person_answers, refused_adds, refused_adds_answers};
-ghost use Rattle.adr_event.specs.declared.event.Event.TheVariants.{Ask, Rollback};
+ghost use Rattle.adr_call.specs.declared.event.Event.TheVariants.{Ask, Rollback};
 ghost use Rattle.adr_call.specs.declared.refusal.ItemFault.TheVariants.{Schema as BreaksSchema};
 ghost use Rattle.adr_call.specs.declared.refusal.TakeRefusal.TheVariants.{BadItem};
 ghost use Rattle.adr_values.specs.declared.refusal.SchemaRefusal.TheVariants.{UnknownAttribute};

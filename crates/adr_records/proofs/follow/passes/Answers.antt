@@ -1,6 +1,6 @@
 use Rattle.std.proofs.Common.{◌≡◌, ◌==◌, Bool, true, ◌&&◌, ◌||◌, sym, ap, ap₂, ◌∙◌}
 use Rattle.std.proofs.lemmas.Result.{IfOk-weaker}
-use Rattle.adr_law_formed.specs.Tested.{are_in_order, comes_after, is_upgraded, writes_pass}
+use Rattle.adr_law_calls.specs.Tested.{are_in_order, comes_after, is_upgraded, writes_pass}
 use Rattle.adr_records.proofs.follow.passes.Goals as goal
 
 pub writes_pass-requires : goal.writes_pass-requires

@@ -5,7 +5,7 @@ use Rattle.adr_values.specs.Table.{Table}
 use Rattle.adr_values.specs.Vector.{Cursors, joined}
 use Rattle.adr_model.specs.Store.{Held}
 use Rattle.adr_model.specs.Change.{Written, after, held_of, rows_after, without_object}
-use Rattle.adr_law_formed.specs.Tested.{are_removable, are_touched_formed, may_follow_in_turn}
+use Rattle.adr_law_calls.specs.Tested.{are_removable, are_touched_formed, may_follow_in_turn}
 use Rattle.adr_records.proofs.follow.writes_pass.Goals as goal
 
 pub returns : goal.returns

@@ -1,7 +1,7 @@
 use Rattle.std.proofs.Common.{◌≡◌, Bor, drop}
 use Rattle.std.specs.List.{list_all}
 use Rattle.adr_model.specs.Store.{Held}
-use Rattle.adr_law_formed.specs.Tested.{fits_class}
+use Rattle.adr_law_calls.specs.Tested.{fits_class}
 use Rattle.adr_records.proofs.forms.all_fit.Given as goal
 
 -- those that are left decide

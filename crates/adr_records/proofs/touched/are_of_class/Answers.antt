@@ -2,7 +2,7 @@ use Rattle.std.proofs.Common.{Bool, Bor, sym, ap, ◌∙◌}
 use Rattle.std.specs.List.{list_all}
 use Rattle.std.proofs.lemmas.List.Folds.{list_all-map}
 use Rattle.adr_model.specs.Store.{Held}
-use Rattle.adr_law_formed.specs.Tested.{fits_class}
+use Rattle.adr_law_calls.specs.Tested.{fits_class}
 use Rattle.adr_records.proofs.touched.are_of_class.Goals as goal
 
 pub returns : goal.returns

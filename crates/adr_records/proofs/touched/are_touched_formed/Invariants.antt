@@ -1,7 +1,7 @@
 use Rattle.std.proofs.Common.{◌≡◌, true, fold, take}
 use Rattle.std.specs.List.{list_all}
 use Rattle.adr_model.specs.Change.{Written, without_object}
-use Rattle.adr_law_formed.specs.Tested.{is_touched_formed}
+use Rattle.adr_law_calls.specs.Tested.{is_touched_formed}
 use Rattle.adr_records.proofs.touched.are_touched_formed.Given as goal
 
 -- those so far are formed

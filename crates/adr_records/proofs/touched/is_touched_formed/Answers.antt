@@ -6,7 +6,7 @@ use Rattle.adr_model.specs.Change.{without_object}
 use Rattle.adr_model.specs.Live.{is_among}
 use Rattle.adr_model.specs.Store.{holds_object, row_held}
 use Rattle.adr_model.specs.Update.{LinkOf}
-use Rattle.adr_law_formed.specs.Tested.{is_touched_formed}
+use Rattle.adr_law_calls.specs.Tested.{is_touched_formed}
 use Rattle.adr_records.proofs.Left.{among_set, removed_formed, absent_formed, left_formed, link_formed, none_copied}
 use Rattle.adr_records.proofs.touched.is_touched_formed.Goals as goal
 use Rattle.adr_records.proofs.touched.is_touched_formed.Goals.{then-contains-via-then-contains, then-contains-via-else-contains+then-not-holds}

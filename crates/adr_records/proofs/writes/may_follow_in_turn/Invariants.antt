@@ -1,6 +1,6 @@
 use Rattle.std.proofs.Common.{◌≡◌, [], drop}
 use Rattle.adr_model.specs.Change.{held_of, rows_after}
-use Rattle.adr_law_formed.specs.Tested.{may_follow_in_turn}
+use Rattle.adr_law_calls.specs.Tested.{may_follow_in_turn}
 use Rattle.adr_records.proofs.writes.may_follow_in_turn.Given as goal
 
 -- the writes so far follow and are put; what is left decides

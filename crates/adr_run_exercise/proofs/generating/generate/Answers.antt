@@ -1,6 +1,6 @@
 use Rattle.std.proofs.Common.{sym, subst}
 use Rattle.std.specs.Prelude.{All}
-use Rattle.adr_event.specs.Supported.{IsSupported}
+use Rattle.adr_call.specs.Supported.{IsSupported}
 use Rattle.adr_schedule.specs.Seen.{nothing_seen, IsFollowing}
 use Rattle.adr_run_exercise.proofs.Followed.{schedules_follow, schedules_supported}
 use Rattle.adr_run_exercise.proofs.generating.generate.Goals as goal

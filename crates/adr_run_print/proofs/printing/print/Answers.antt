@@ -1,6 +1,6 @@
 use Rattle.std.proofs.Common.{[], ◌++◌, ap, ◌∙◌, append_assoc}
 use Rattle.std.specs.Prelude.{codes}
-use Rattle.adr_event.specs.declared.event.Event.{Event}
+use Rattle.adr_call.specs.declared.event.Event.{Event}
 use Rattle.adr_token.proofs.Lists.{added}
 use Rattle.adr_run_print.specs.Printed.{line_of}
 use Rattle.adr_run_print.proofs.printing.print.Goals as goal

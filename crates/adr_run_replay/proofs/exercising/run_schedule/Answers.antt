@@ -1,6 +1,6 @@
 use Rattle.std.proofs.Common.{sym, subst}
 use Rattle.std.specs.Prelude.{All}
-use Rattle.adr_event.specs.Supported.{IsSupported}
+use Rattle.adr_call.specs.Supported.{IsSupported}
 use Rattle.adr_model.specs.Convergence.{MayAllHappen}
 use Rattle.adr_law_headline.proofs.Following.{following_may}
 use Rattle.adr_law_headline.proofs.Typing.{following_typed}

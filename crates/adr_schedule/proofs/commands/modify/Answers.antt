@@ -2,7 +2,7 @@ use Rattle.std.proofs.Common.{◌≡◌, ℕ, List, [], length, Some, None, refl
 use Rattle.std.proofs.lemmas.Bool.{ne_eqb}
 use Rattle.std.proofs.lemmas.List.{nil_from_length}
 use Rattle.adr_call.specs.declared.write.Write.TheVariants.{Modify}
-use Rattle.adr_event.specs.declared.event.Event.TheVariants.{Write}
+use Rattle.adr_call.specs.declared.event.Event.TheVariants.{Write}
 use Rattle.adr_values.specs.Assignments.{Given}
 use Rattle.adr_token.specs.Identifiers.{identifier_at}
 use Rattle.adr_token.specs.Words.{name_at}

@@ -1,6 +1,6 @@
 use Rattle.std.proofs.Common.{◌≡◌, ℕ, List, length, Some, refl}
 use Rattle.std.proofs.lemmas.Bool.{eq-eqb, ne_eqb}
-use Rattle.adr_event.specs.declared.event.Event.TheVariants.{Stop}
+use Rattle.adr_call.specs.declared.event.Event.TheVariants.{Stop}
 use Rattle.adr_token.specs.Words.{name_at, unspaced}
 use Rattle.adr_schedule.specs.Commands.{stop_after, stop_line}
 use Rattle.adr_schedule.proofs.commands.stop.Goals as goal

@@ -1,5 +1,5 @@
 use Rattle.std.proofs.Common.{◌≡◌, ◌<◌, ◌+◌, ℕ, suc, List, ◌∷◌, get_or, drop, drop-cons, length, sym, ap, ◌∙◌, arith}
-use Rattle.adr_event.specs.declared.answer.Answer.{Answer}
+use Rattle.adr_call.specs.declared.answer.Answer.{Answer}
 use Rattle.adr_run_world.specs.declared.counting.Tally.{Tally}
 use Rattle.adr_run_world.specs.Counted.{counted, with_answer}
 use Rattle.adr_run_world.proofs.counting.Tally.add_all.Goals as goal

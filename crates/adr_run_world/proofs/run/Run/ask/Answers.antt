@@ -1,6 +1,6 @@
 use Rattle.std.proofs.Common.{◌≡◌, ◌∙◌, sym, ap, subst, codes}
 use Rattle.adr_call.specs.declared.outcome.Outcome.{Outcome}
-use Rattle.adr_event.specs.declared.event.Event.TheVariants.{Ask}
+use Rattle.adr_call.specs.declared.event.Event.TheVariants.{Ask}
 use Rattle.adr_law_recorded.specs.Ranged.{IsRangedRequest}
 use Rattle.adr_model.specs.Step.{step, told}
 use Rattle.adr_model.specs.World.{asks, bound}

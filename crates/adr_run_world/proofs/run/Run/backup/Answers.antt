@@ -1,5 +1,5 @@
 use Rattle.std.proofs.Common.{◌≡◌, ◌∙◌, sym, ap, None, codes}
-use Rattle.adr_event.specs.declared.event.Event.TheVariants.{Backup}
+use Rattle.adr_call.specs.declared.event.Event.TheVariants.{Backup}
 use Rattle.adr_call.specs.declared.outcome.Outcome.{Outcome}
 use Rattle.adr_call.specs.declared.outcome.Outcome.TheVariants as outcomes
 use Rattle.adr_model.specs.Collect.{backup}

@@ -1,7 +1,7 @@
 -- A line is what its turns come to.
 use Rattle.std.proofs.Common.{◌≡◌, ◌≤◌, List, [], ◌++◌, refl, sym, ap, ◌∙◌, subst, arith}
 use Rattle.std.proofs.lemmas.List.Sums.{fold-append}
-use Rattle.adr_event.specs.declared.answer.Answer.{Answer}
+use Rattle.adr_call.specs.declared.answer.Answer.{Answer}
 use Rattle.adr_model.specs.World.{World}
 use Rattle.adr_model.specs.Cycles.{Pulled, reply_limit}
 use Rattle.adr_run_world.specs.declared.counting.Tally.{Tally}

@@ -1,5 +1,5 @@
 use Rattle.std.proofs.Common.{◌≡◌, List}
-use Rattle.adr_event.specs.declared.answer.Answer.{Answer}
+use Rattle.adr_call.specs.declared.answer.Answer.{Answer}
 use Rattle.adr_run_world.specs.Counted.{counted}
 use Rattle.adr_run_world.specs.Run.{IsSoundRun, world_of}
 use Rattle.adr_run_world.proofs.Turns.{IsSoFar}

@@ -1,7 +1,7 @@
 use Rattle.std.proofs.Common.{◌≡◌, ◌∙◌, ap, subst, codes}
-use Rattle.adr_event.specs.declared.event.Event.TheVariants.{Ask}
-use Rattle.adr_event.specs.Supported.{IsSupported}
-use Rattle.adr_event.specs.Verbs.{verb_of_report, verb_of_write, word_of}
+use Rattle.adr_call.specs.declared.event.Event.TheVariants.{Ask}
+use Rattle.adr_call.specs.Supported.{IsSupported}
+use Rattle.adr_call.specs.Verbs.{verb_of_report, verb_of_write, word_of}
 use Rattle.adr_law_recorded.specs.Typed.{IsTyped}
 use Rattle.adr_model.specs.Collect.{collect}
 use Rattle.adr_model.specs.Convergence.{MayHappen}

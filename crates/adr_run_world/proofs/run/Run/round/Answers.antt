@@ -1,6 +1,6 @@
 -- A round is what its cycles come to, one after the other.
 use Rattle.std.proofs.Common.{Option, ap, ◌∙◌, arith}
-use Rattle.adr_event.specs.declared.answer.Answer.{Answer}
+use Rattle.adr_call.specs.declared.answer.Answer.{Answer}
 use Rattle.adr_model.specs.Rings.{ring}
 use Rattle.adr_answers.proofs.Results.{on_err}
 use Rattle.adr_run_world.specs.Run.{world_of}

@@ -1,5 +1,5 @@
 use Rattle.std.proofs.Common.{Option, ap, ◌∙◌, arith}
-use Rattle.adr_event.specs.declared.answer.Answer.{Answer}
+use Rattle.adr_call.specs.declared.answer.Answer.{Answer}
 use Rattle.adr_model.specs.Rings.{ring, times}
 use Rattle.adr_answers.proofs.Results.{on_err}
 use Rattle.adr_run_world.specs.Run.{world_of}

@@ -1,6 +1,6 @@
 -- A ring is answered by what its rounds come to.
 use Rattle.std.proofs.Common.{Option, ap, ◌∙◌, codes}
-use Rattle.adr_event.specs.declared.answer.Answer.{Answer}
+use Rattle.adr_call.specs.declared.answer.Answer.{Answer}
 use Rattle.adr_call.specs.declared.outcome.Outcome.TheVariants as outcomes
 use Rattle.adr_answers.proofs.Results.{on_err}
 use Rattle.adr_run_world.specs.Run.{world_of}

@@ -1,6 +1,6 @@
 use Rattle.std.proofs.Common.{◌∙◌, sym, ap, List, [], ◌∷◌, ◌++◌}
-use Rattle.adr_event.specs.declared.answer.Answer.{Answer}
-use Rattle.adr_event.specs.Verbs.{name_of, verb_of, word_of}
+use Rattle.adr_call.specs.declared.answer.Answer.{Answer}
+use Rattle.adr_call.specs.Verbs.{name_of, verb_of, word_of}
 use Rattle.adr_run_world.specs.Run.{world_of}
 use Rattle.adr_run_world.proofs.Bindings.{headed}
 use Rattle.adr_run_world.proofs.run.Run.step_alone.Goals as goal

@@ -1,6 +1,6 @@
 -- A cycle is what its pulls come to.
 use Rattle.std.proofs.Common.{◌≡◌, Option, Some, sym, ap, ◌∙◌, codes, arith}
-use Rattle.adr_event.specs.declared.answer.Answer.{Answer}
+use Rattle.adr_call.specs.declared.answer.Answer.{Answer}
 use Rattle.adr_call.specs.declared.outcome.Outcome.TheVariants as outcomes
 use Rattle.adr_model.specs.Cycles.{Pulled, reply_limit}
 use Rattle.adr_answers.proofs.Results.{on_err}

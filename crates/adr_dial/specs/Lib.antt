@@ -1,4 +1,0 @@
-pub mod Dialled
-pub mod Pulls
-pub mod Texts
-pub mod Sends

@@ -1,3 +1,0 @@
-pub mod RisingShown
-pub mod ShownExportable
-pub mod ExportableRuns

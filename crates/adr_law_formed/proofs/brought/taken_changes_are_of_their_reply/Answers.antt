@@ -1,5 +1,0 @@
-use Rattle.adr_law_formed.proofs.TakenFollow.{taken_brings}
-use Rattle.adr_law_formed.proofs.brought.taken_changes_are_of_their_reply.Goals as goal
-
-pub returns : goal.returns
-returns c = taken_brings

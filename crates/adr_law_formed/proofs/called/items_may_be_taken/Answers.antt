@@ -1,5 +1,0 @@
-use Rattle.adr_law_formed.proofs.ItemMay.{item_may}
-use Rattle.adr_law_formed.proofs.called.items_may_be_taken.Goals as goal
-
-pub returns : goal.returns
-returns c = item_may

@@ -1,5 +1,0 @@
-use Rattle.adr_law_formed.proofs.Still.{quarantine_follows}
-use Rattle.adr_law_formed.proofs.called.quarantines_follow.Goals as goal
-
-pub returns : goal.returns
-returns c = quarantine_follows

@@ -1,8 +1,0 @@
-use Rattle.adr_law_formed.proofs.WritesTested.{following_where_tested, tested_where_following}
-use Rattle.adr_law_formed.proofs.tested.writes_are_tested.Goals as goal
-
-pub returns-clause-told : goal.returns-clause-told
-returns-clause-told c = following_where_tested
-
-pub returns-clause-pass : goal.returns-clause-pass
-returns-clause-pass c = tested_where_following

@@ -1,9 +1,0 @@
-use Rattle.adr_law_logs.proofs.Served.{reply_is_sound}
-use Rattle.adr_law_logs.proofs.Granted.{served_is_sound}
-use Rattle.adr_law_logs.proofs.serving.served_replies_are_sound.Goals as goal
-
-pub returns-clause-served : goal.returns-clause-served
-returns-clause-served c = served_is_sound
-
-pub returns-clause-covered : goal.returns-clause-covered
-returns-clause-covered c = reply_is_sound

@@ -1,5 +1,0 @@
-use Rattle.adr_law_rounds.proofs.Together.{runs_come_together}
-use Rattle.adr_law_rounds.proofs.runs_come_together.Goals as goal
-
-pub returns : goal.returns
-returns c = runs_come_together
