@@ -10,8 +10,9 @@ ghost use Rattle.adr_run_replay.specs.Walked.{outcome};
 
 use adr_io::{Fault, Sink, Source, read_at_most};
 use adr_run_world::play;
-use adr_schedule::{Failure, ScheduleFault, TEXT_LIMIT, discard, fault_line, parse};
+use adr_schedule::{Failure, ScheduleFault, TEXT_LIMIT, fault_line, parse};
 use std::alloc::Global;
+use std::mem::forget;
 
 /// The status after a write: this one, or that of its fault, 5 where it failed and 8 for want of memory.
 pub fn ended(status: u8, written: Result<(), Fault>) -> u8
@@ -48,7 +49,8 @@ fn perform<K: Sink>(alloc: Global, text: &[u8], sink: &mut K) -> (u8, Result<(),
     match parse(alloc, text) {
         Ok(events) => {
             let played = play(alloc, events.as_slice(), sink);
-            discard(events);
+            // The process ends with the run, and the system takes its memory back whole.
+            forget(events);
             (0, played)
         }
         Err(Failure::Refused(fault)) => (3, tell_fault(alloc, fault, sink)),

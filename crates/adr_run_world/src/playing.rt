@@ -47,7 +47,7 @@ pub fn play<K: Sink>(alloc: Global, events: &[Event], sink: &mut K) -> Result<()
 {
     let mut world = World::new(alloc);
     let played = play_on(alloc, &mut world, events, sink);
-    // A process plays once: the system takes its memory back quicker, whole.
+    // The process ends with the run, and the system takes its memory back whole.
     forget(world);
     played
 }

@@ -23,5 +23,5 @@ pub use fault::{Cause, ScheduleFault};
 pub use laws::{faults_read_back, lines_read_back, schedules_read_back};
 pub use limits::TEXT_LIMIT;
 pub use lines::first_line;
-pub use parsing::{discard, parse};
+pub use parsing::parse;
 pub use telling::fault_line;

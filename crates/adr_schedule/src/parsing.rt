@@ -143,6 +143,3 @@ pub fn parse(alloc: Global, text: &[u8]) -> Result<Vec<Event>, Failure<ScheduleF
     read_text(alloc, &mut events, text)?;
     Ok(events)
 }
-
-/// Lets events go, where the drop of each kind of them is proved already.
-pub fn discard(_events: Vec<Event>) {}
