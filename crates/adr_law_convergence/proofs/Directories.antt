@@ -26,17 +26,18 @@ use Rattle.adr_law_convergence.proofs.Knowing.{Knows, known_where_reflected, kno
 use Rattle.adr_law_convergence.proofs.Wholes.{IsCycled, cycled}
 use Rattle.adr_law_convergence.proofs.Runs.{one_of, stands}
 
--- what one of these has in view
-abbrev among : List Name → Replica → Bool
+-- whether it is one of these
+abbrev pub among : List Name → Replica → Bool
 among names r = list_any (λ n. bytes_eq n r.name) names
 
-abbrev seen_by : List Name → World → List Update
+-- the issued updates that one of these covers or holds
+abbrev pub seen_by : List Name → World → List Update
 seen_by names w = flat_map (λ (x : Replica). in_view w x.safe) (filter (among names) w.replicas)
 
-seen : (names : List Name) (w : World) (r : Replica) (u : Update) → Member r w.replicas → Member r.name names → Member u (in_view w r.safe) → Member u (seen_by names w)
+pub seen : (names : List Name) (w : World) (r : Replica) (u : Update) → Member r w.replicas → Member r.name names → Member u (in_view w r.safe) → Member u (seen_by names w)
 seen names w r u m is v = member_flat (λ (x : Replica). in_view w x.safe) (filter (among names) w.replicas) r u (in_filter (among names) w.replicas r m (one_passes (λ (n : Name). bytes_eq n r.name) names r.name is (same_name_tests r.name r.name refl))) v
 
-by_whom : (names : List Name) (w : World) (u : Update) → Member u (seen_by names w) → (r : Replica) × Member r w.replicas × Member r.name names × Member u (in_view w r.safe)
+pub by_whom : (names : List Name) (w : World) (u : Update) → Member u (seen_by names w) → (r : Replica) × Member r w.replicas × Member r.name names × Member u (in_view w r.safe)
 by_whom names w u m = let t = flat_member (λ (x : Replica). in_view w x.safe) (filter (among names) w.replicas) u m in
     let f = of_filter (among names) w.replicas t.0 t.1 in
     let n = some_passes (λ (n : Name). bytes_eq n t.0.name) names f.1 in

@@ -16,6 +16,7 @@ use Rattle.adr_law_headline.proofs.Following.{following_may}
 use Rattle.adr_law_convergence.specs.Rounds.{Exchange, connection, line_of, AreWhole, AreAmong, behind_exchanges, in_turn, IsRound, AreConnected, HaveOneVector}
 use Rattle.adr_law_convergence.proofs.Hearing.{rings_are_connected}
 use Rattle.adr_law_convergence.proofs.Rounds.{rounds_converge}
+use Rattle.adr_law_convergence.proofs.Directories.{seen_by}
 use Rattle.adr_law_convergence.proofs.Runs.{sound_behind, issued_behind, settled_behind, AreSettled}
 use Rattle.adr_law_convergence.proofs.Telling.{IsUp, pulled_is_up, directories_alike}
 use Rattle.adr_run_exercise.specs.Generated.{beginning, round, rounds, groups, persons, deletions, collections, schedule}
@@ -25,7 +26,7 @@ use Rattle.adr_run_exercised.specs.Exercised.{pulls_from, four_pull, six_rounds,
 use Rattle.adr_run_exercised.proofs.Collecting.{AreCollecting, AreLevelBehind, collections_keep_level}
 use Rattle.adr_run_exercised.proofs.Level.{AreLevel, level_behind, level_show_the_same}
 use Rattle.adr_run_exercised.proofs.Mild.{AreMild, mild_append, beginning_mild, rounds_mild, collections_mild, from_groups, from_groups_mild, nothing_put_back, lines_both, may_before}
-use Rattle.adr_run_exercised.proofs.Settled.{IsThere, seen_by, seen_is_issued, settled_are_level}
+use Rattle.adr_run_exercised.proofs.Settled.{IsThere, seen_is_issued, settled_are_level}
 
 -- ---- the rounds of the four
 

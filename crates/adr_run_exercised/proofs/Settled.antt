@@ -1,7 +1,5 @@
 -- Connected controllers that have nothing left to write, and have one vector, are level.
-use Rattle.std.proofs.Common.{◌≡◌, inl, inr, ℕ, zero, suc, List, Bool, refl, sym, ◌∙◌, subst, filter, flat_map}
-use Rattle.std.specs.List.{list_any}
-use Rattle.std.specs.Str.{bytes_eq}
+use Rattle.std.proofs.Common.{◌≡◌, inl, inr, ℕ, zero, suc, List, refl, sym, ◌∙◌, subst}
 use Rattle.adr_values.specs.Vector.{Cursors, at}
 use Rattle.adr_model.specs.Member.{Member, Each}
 use Rattle.adr_model.specs.Update.{Update}
@@ -12,33 +10,16 @@ use Rattle.adr_model.specs.World.{in_view, Name, World}
 use Rattle.adr_model.specs.Rings.{Connection}
 use Rattle.adr_model.specs.Sound.{IsSoundWorld}
 use Rattle.adr_model.specs.Convergence.{held_by}
-use Rattle.adr_model.proofs.Members.{member_flat, flat_member, in_filter, of_filter, one_passes, some_passes}
 use Rattle.adr_law_knowledge.proofs.Knows.{covers_up}
 use Rattle.adr_law_knowledge.proofs.View.{covered_is_visible, held_is_visible, of_visible, visible_is_in_view}
 use Rattle.adr_law_convergence.proofs.Controllers.{replica_is_sound}
-use Rattle.adr_law_convergence.proofs.Found.{same_name, same_name_tests}
+use Rattle.adr_law_convergence.proofs.Directories.{by_whom, seen, seen_by}
 use Rattle.adr_law_convergence.specs.Rounds.{HaveOneVector, Reaches, AreConnected}
 use Rattle.adr_law_convergence.proofs.Knowing.{Knows, known_where_reflected, knows_too}
 use Rattle.adr_law_convergence.proofs.Runs.{one_of, AreSettled}
 use Rattle.adr_run_exercised.proofs.Level.{AreLevel}
 
 -- ---- what some have in view
-
-abbrev among : List Name → Replica → Bool
-among names r = list_any (λ n. bytes_eq n r.name) names
-
--- the issued updates that one of these covers or holds
-abbrev pub seen_by : List Name → World → List Update
-seen_by names w = flat_map (λ (x : Replica). in_view w x.safe) (filter (among names) w.replicas)
-
-seen : (names : List Name) (w : World) (r : Replica) (u : Update) → Member r w.replicas → Member r.name names → Member u (in_view w r.safe) → Member u (seen_by names w)
-seen names w r u m is v = member_flat (λ (x : Replica). in_view w x.safe) (filter (among names) w.replicas) r u (in_filter (among names) w.replicas r m (one_passes (λ (n : Name). bytes_eq n r.name) names r.name is (same_name_tests r.name r.name refl))) v
-
-by_whom : (names : List Name) (w : World) (u : Update) → Member u (seen_by names w) → (r : Replica) × Member r w.replicas × Member r.name names × Member u (in_view w r.safe)
-by_whom names w u m = let t = flat_member (λ (x : Replica). in_view w x.safe) (filter (among names) w.replicas) u m in
-    let f = of_filter (among names) w.replicas t.0 t.1 in
-    let n = some_passes (λ (n : Name). bytes_eq n t.0.name) names f.1 in
-    (t.0, f.0, subst (λ x. Member x names) (same_name n.0 t.0.name n.2) n.1, t.2)
 
 pub seen_is_issued : (names : List Name) (w : World) → Each (λ u. Member u w.book.issued) (seen_by names w)
 seen_is_issued names w u m = let t = by_whom names w u m in (of_visible w.book.issued t.0.safe.store.vector (held_by t.0) u t.3).0
