@@ -53,10 +53,7 @@ pub(crate) fn reserve_flag(flags: &mut BTreeMap<Guid, bool>, guid: Guid) -> Resu
     ensures more { KeepsPlaces flags.old flags.new }
     ensures ok { OnOk result (IsSome (get identifier_order flags.new guid)) }
 {
-    if flags.contains_key(&guid) {
-        return Ok(());
-    }
-    flags.insert(guid, false)?;
+    flags.entry(guid)?.or_insert(false);
     Ok(())
 }
 
