@@ -204,12 +204,12 @@ module _ (rows : List Held) (from : Mark) (asked : Cursors) where
       one_passes (λ h. same_unit (of_row h) u) rows t.0 (of_filter may_send rows t.0 t.1).0 (ap (λ v. same_unit (of_row t.0) v) t.2 ∙ is_own_unit (of_row t.0)))
       (λ e m. absurd m)
 
-  -- the first item behind a number is that of the next local USN, or the first behind that
+  -- the first item behind a number is that of the next number, or the first behind that
   pub next_found : (n k : ℕ) → IsNextLocal rows n (Some k)
       → next n (candidates rows from asked) ≡ option_or (option_map (λ i. (k, i)) (lookup (is_at (nat_cmp k)) (candidates rows from asked))) (next k (candidates rows from asked))
   next_found n k is =
       next_is from.obj n k (candidates rows from asked) candidates_rise is.0
-      (λ e m below. let t = lasts e m in subst (λ j. k ≤ j) t.2 (is.2 t.0 t.1 (subst (λ j. n < j) (sym t.2) below)))
+      (λ e m below. let t = lasts e m in subst (λ j. k ≤ j) t.2 (is.1 t.0 t.1 (subst (λ j. n < j) (sym t.2) below)))
 
   pub next_ends : (n : ℕ) → IsNextLocal rows n None → next n (candidates rows from asked) ≡ None
   next_ends n is =

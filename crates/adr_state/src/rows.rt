@@ -147,7 +147,7 @@ impl Rows {
         self.table.rows_of_unit(alloc, unit)
     }
 
-    /// The least number behind this one that is the last local update sequence number of a unit.
+    /// The next number behind this one that may be the last local update sequence number of a unit: none lies between.
     pub fn next_local(&self, usn: u64) -> Option<u64>
         ensures { IsNextLocal self.now usn result }
     {

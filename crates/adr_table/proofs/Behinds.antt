@@ -26,10 +26,10 @@ use Rattle.adr_model.specs.Store.{Held}
 use Rattle.adr_update.proofs.Starts.{from_all}
 use Rattle.adr_table.specs.declared.back.Source.{Source}
 use Rattle.adr_table.specs.declared.back.Behind.{Behind}
-use Rattle.adr_table.specs.Place.{place_of, place_order}
+use Rattle.adr_shelves.specs.Place.{place_of, place_order}
 use Rattle.adr_update.specs.Sought.{is_link_to}
 use Rattle.adr_table.specs.Back.{source_order, behind_order, hint, is_place_of, link_behind}
-use Rattle.adr_table.proofs.Places.{places_total, exact_options, same_place}
+use Rattle.adr_shelves.proofs.Places.{places_total, exact_options, same_place}
 
 -- ---- hints
 

@@ -19,9 +19,10 @@ use Rattle.adr_model.specs.Store.{Held, updates_of}
 use Rattle.adr_model.specs.Write.{is_link_row, links_in}
 use Rattle.adr_law_knowledge.proofs.Counting.{rises_from}
 use Rattle.adr_law_knowledge.proofs.Lists.{in_sorted, not_both_ways, of_sorted, same_members_one_list, sorted_rises}
-use Rattle.adr_table.specs.Place.{is_of_class, is_of_link, place_of}
-use Rattle.adr_table.specs.Slots.{AreAtHome, one_more_if, seen, tally}
-use Rattle.adr_table.proofs.Seen.{Entries}
+use Rattle.adr_shelves.specs.Place.{is_of_class, is_of_link, place_of}
+use Rattle.adr_shelves.specs.Shelves.{one_more_if, tally}
+use Rattle.adr_table.specs.Slots.{AreAtHome, seen}
+use Rattle.adr_shelves.proofs.Entries.{Entries}
 
 -- ---- links
 

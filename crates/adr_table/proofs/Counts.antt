@@ -1,5 +1,5 @@
 -- How many rows of a kind there are, after a slot is made or its row replaced.
-use Rattle.std.proofs.Common.{◌≡◌, ℕ, ◌≤◌, [], ◌∷◌, length, Bool, true, false, cond, not, ◌&&◌, Option, Some, None, refl, sym, ap, ◌∙◌, subst, arith}
+use Rattle.std.proofs.Common.{◌≡◌, ℕ, ◌≤◌, [], ◌∷◌, Bool, true, false, cond, not, ◌&&◌, Option, Some, None, refl, sym, ap, ◌∙◌, subst, arith}
 use Rattle.std.specs.Prelude.{is_some}
 use Rattle.std.specs.Map.{lookup, keys_of, set_value}
 use Rattle.std.specs.BTreeMap.{insert_entry, is_at}
@@ -9,19 +9,12 @@ use Rattle.std.specs.declared.cmp.Ordering.TheVariants.{Less, Equal, Greater}
 use Rattle.std.proofs.lemmas.Map.Keys.{sorted_tail}
 use Rattle.adr_model.proofs.Keys.{equal_order}
 use Rattle.adr_model.specs.Store.{Held}
-use Rattle.adr_table.specs.declared.place.Place.{Place}
-use Rattle.adr_table.specs.Place.{place_order}
-use Rattle.adr_table.specs.Slots.{flat, one_more_if, tally}
-use Rattle.adr_table.proofs.Places.{exact_places}
-use Rattle.adr_table.proofs.Seen.{Entries, AreSorted, none_below}
-
-pub tally_few : (test : Place → Bool) (es : Entries) → tally test es ≤ length es
-tally_few test [] = omega arith
-tally_few test (e ∷ es) = by (is_some e.1 && test e.0) (tally_few test es)
-  where
-    by : (b : Bool) → tally test es ≤ length es → one_more_if b (tally test es) ≤ length (e ∷ es)
-    by true h = omega (arith, h)
-    by false h = omega (arith, h)
+use Rattle.adr_shelves.specs.declared.place.Place.{Place}
+use Rattle.adr_shelves.specs.Place.{place_order}
+use Rattle.adr_shelves.specs.Shelves.{flat, one_more_if, tally}
+use Rattle.adr_shelves.proofs.Places.{exact_places}
+use Rattle.adr_shelves.proofs.Entries.{Entries, AreSorted}
+use Rattle.adr_table.proofs.Seen.{none_below}
 
 pub tally_made : (test : Place → Bool) (es : Entries) (p : Place) → lookup (is_at (place_order p)) es ≡ None → tally test (insert_entry place_order es p None) ≡ tally test es
 tally_made test [] p none = refl
@@ -118,6 +111,6 @@ put_count test es fs p h is sorted b e n count =
     ∙ ap (λ c. one_more_if c (tally test es)) (sym e) ∙ ap (one_more_if b) (sym count)
 
 pub put_room : (test : Place → Bool) (es fs : Entries) (p : Place) (h : Held) → fs ≡ insert_entry place_order es p (Some h) → AreSorted es
-    → (b : Bool) → b ≡ (not (is_some (flat (lookup (is_at (place_order p)) es))) && test p) → (n : ℕ) → n ≡ tally test es → one_more_if b n ≤ length fs
-put_room test es fs p h is sorted b e n count =
-    let few = tally_few test fs in let more = put_count test es fs p h is sorted b e n count in omega (arith, few, more)
+    → (b : Bool) → b ≡ (not (is_some (flat (lookup (is_at (place_order p)) es))) && test p) → (n : ℕ) → n ≡ tally test es
+    → (most : ℕ) → tally test fs ≤ most → one_more_if b n ≤ most
+put_room test es fs p h is sorted b e n count most few = let more = put_count test es fs p h is sorted b e n count in omega (arith, few, more)

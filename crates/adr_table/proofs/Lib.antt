@@ -1,6 +1,7 @@
 pub mod Behinds
 pub mod Births
 pub mod Counts
+pub mod Emptied
 pub mod Freed
 pub mod Hinted
 pub mod Linked
@@ -9,7 +10,6 @@ pub mod LocalsFound
 pub mod LocalsKept
 pub mod LocalsSeats
 pub mod OneList
-pub mod Places
 pub mod Queries
 pub mod Reading
 pub mod Rooms
@@ -17,3 +17,4 @@ pub mod Runs
 pub mod Seen
 pub mod Spans
 pub mod Stripped
+pub mod UnitFrees

@@ -32,7 +32,7 @@ use Rattle.adr_update.proofs.Starts.{from_all}
 use Rattle.adr_table.specs.declared.slots.Slots.{Slots}
 use Rattle.adr_table.specs.declared.back.Source.{Source}
 use Rattle.adr_table.specs.declared.back.Behind.{Behind}
-use Rattle.adr_table.specs.Place.{place_of}
+use Rattle.adr_shelves.specs.Place.{place_of}
 use Rattle.adr_table.specs.Slots.{IsTidy, row_at, rows_seen}
 use Rattle.adr_table.specs.Back.{AreBacked, behind_order, hint, link_behind, row_of_link, source_order}
 use Rattle.adr_table.proofs.Seen.{found}
@@ -172,7 +172,7 @@ module _ (slots : Slots) (tidy : IsTidy slots) (o : Oid) where
           let l : LinkKey = record { from = s.object; attr = s.attr; to = b.to } in
           record {
             link = l;
-            row = sym (found slots.map.entries (LinkOf l) tidy.ordered tidy.home) ∙ row;
+            row = sym (found slots.map (LinkOf l) tidy.ordered tidy.home) ∙ row;
             own = ap (λ f. let c : Behind = record { to = b.to; from = f } in c) own;
             to = to;
           }
@@ -209,13 +209,13 @@ module _ (slots : Slots) (tidy : IsTidy slots) (o : Oid) where
       (λ h m to. there h m h.update.key refl to)
     where
       rising : AreRising (rows_seen slots)
-      rising = rise slots.map.entries tidy.ordered tidy.home
+      rising = rise slots.map tidy.ordered tidy.home
 
       there : (h : Held) → Member h (rows_seen slots) → (k : Key) → h.update.key ≡ k → is_link_to o k ≡ true → (b : Behind) × Member b left × (linked_row slots o b ≡ Some h)
       there h m (RowOf p a) key to = cc
       there h m (LinkOf l) key to =
           let row : row_at slots (place_of (LinkOf l)) ≡ Some h =
-          found slots.map.entries (LinkOf l) tidy.ordered tidy.home ∙ sym (ap (row_held (rows_seen slots)) key) ∙ held_is (rows_seen slots) rising h m in
+          found slots.map (LinkOf l) tidy.ordered tidy.home ∙ sym (ap (row_held (rows_seen slots)) key) ∙ held_is (rows_seen slots) rising h m in
           let t = some_passes (is_at (behind_order (hint l))) left (hinted o back.keys left is l to (backed l (ap is_some row))) in
           let same : hint l ≡ t.0 = exact_behinds (hint l) t.0 (equal_order (behind_order (hint l) t.0) t.2) in
           (hint l, subst (λ b. Member b left) (sym same) t.1, ap (λ r. cond r (row_at slots (place_of (LinkOf l))) None) to ∙ row)

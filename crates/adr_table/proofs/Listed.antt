@@ -19,7 +19,7 @@ use Rattle.adr_model.specs.Store.{Held, row_held}
 use Rattle.adr_model.specs.Update.{Key, RowOf, LinkOf, deleted_attr, key_order}
 use Rattle.adr_law_knowledge.proofs.Counting.{rises_from}
 use Rattle.adr_table.specs.declared.slots.Slots.{Slots}
-use Rattle.adr_table.specs.Place.{place_of}
+use Rattle.adr_shelves.specs.Place.{place_of}
 use Rattle.adr_table.specs.Slots.{IsTidy, row_at, rows_seen}
 use Rattle.adr_table.specs.Deaths.{AreListed, IsListed}
 use Rattle.adr_table.proofs.Births.{row_of_attr}
@@ -47,7 +47,7 @@ none_killed dead k none = subst (λ r. IfSome r (λ o. contains object_order dea
 
 -- a row that is held is listed
 pub listed_held : (slots : Slots) (dead : BTreeSet Oid) → IsTidy slots → AreListed slots dead → (k : Key) → IsSome (row_at slots (place_of k)) → IsListed dead k
-listed_held slots dead tidy listed k some = by (row_held (rows_seen slots) k) refl (subst IsSome (found slots.map.entries k tidy.ordered tidy.home) some)
+listed_held slots dead tidy listed k some = by (row_held (rows_seen slots) k) refl (subst IsSome (found slots.map k tidy.ordered tidy.home) some)
   where
     by : (r : Option Held) → row_held (rows_seen slots) k ≡ r → IsSome r → IsListed dead k
     by None is s = cc
@@ -60,7 +60,7 @@ listed_but slots dead dead' object tidy listed none but h m = by (killed_by h.up
   where
     apart : (o : Oid) → killed_by h.update.key ≡ Some o → object ≡ o → ⊥
     apart o is same =
-        let there : row_held (rows_seen slots) h.update.key ≡ Some h = held_is (rows_seen slots) (rise slots.map.entries tidy.ordered tidy.home) h m in
+        let there : row_held (rows_seen slots) h.update.key ≡ Some h = held_is (rows_seen slots) (rise slots.map tidy.ordered tidy.home) h m in
         let own : h.update.key ≡ RowOf object deleted_attr = killed_is h.update.key o is ∙ ap (λ p. RowOf p deleted_attr) (sym same) in
         let no : None ≡ Some h = sym none ∙ sym (ap (row_held (rows_seen slots)) own) ∙ there in cc
 
@@ -88,7 +88,7 @@ all_deaths slots tidy dead listed sorted =
     (λ h m dies. there h m (killed_by h.update.key) refl dies)
   where
     rising : AreRising (rows_seen slots)
-    rising = rise slots.map.entries tidy.ordered tidy.home
+    rising = rise slots.map tidy.ordered tidy.home
 
     later : (o p : Oid) (j k : Key) → j ≡ RowOf o deleted_attr → k ≡ RowOf p deleted_attr → object_order o p ≡ Less → key_order j k ≡ Less
     later o p j k own other less = ap (λ x. key_order x k) own ∙ ap (λ x. key_order (RowOf o deleted_attr) x) other ∙ ap (λ x. ordering_then x Equal) less

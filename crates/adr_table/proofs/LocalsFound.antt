@@ -26,10 +26,10 @@ use Rattle.adr_law_knowledge.specs.Rises.{Rises}
 use Rattle.adr_law_knowledge.proofs.Counting.{rises_from}
 use Rattle.adr_law_knowledge.proofs.Lists.{filter_map_rises, filter_rises, in_sorted, not_both_ways, of_sorted, same_members_one_list, sorted_rises}
 use Rattle.adr_update.specs.Sought.{IsNextLocal, units_at}
-use Rattle.adr_table.specs.declared.place.Place.{Place}
+use Rattle.adr_shelves.specs.declared.place.Place.{Place}
 use Rattle.adr_table.specs.declared.slots.Slots.{Slots}
 use Rattle.adr_table.specs.declared.locals.Local.{Local}
-use Rattle.adr_table.specs.Place.{place_order}
+use Rattle.adr_shelves.specs.Place.{place_order}
 use Rattle.adr_table.specs.Slots.{rows_seen}
 use Rattle.adr_table.specs.Locals.{local_order, unit_place, unit_at, unit_hinted, AreLocated, is_last}
 use Rattle.adr_table.proofs.LocalsSeats.{unit_is, unit_order_is, units_tell}
@@ -244,21 +244,16 @@ all_left slots locals usn left located is sorted = record {
       (behind_first usn (local_at u (last_local (rows_seen slots) u)) (omega arith)));
 }
 
--- a hint that is behind the number and is not of a last one is passed
-pub passed : (rows : List Held) (usn : ℕ) (b : Local) (bs : List Local) → IsLeft rows usn (b ∷ bs) → (usn < b.usn → is_last rows b ≡ false) → IsLeft rows usn bs
-passed rows usn b bs left stale = record { rises = left.rises.1; has = λ u held behind. by u held behind (left.has u held behind) }
+-- a hint that isn't behind the number is passed
+pub passed : (rows : List Held) (usn : ℕ) (b : Local) (bs : List Local) → IsLeft rows usn (b ∷ bs) → b.usn ≤ usn → IsLeft rows usn bs
+passed rows usn b bs left before = record { rises = left.rises.1; has = λ u held behind. by u held behind (left.has u held behind) }
   where
     by : (u : Named) → holds_unit rows u ≡ true → usn < last_local rows u → Member (local_at u (last_local rows u)) (b ∷ bs) → Member (local_at u (last_local rows u)) bs
-    by u held behind (inl e) =
-        let number : last_local rows u ≡ b.usn = ap (λ (l : Local). l.usn) e in
-        let no : is_last rows b ≡ false = stale (omega arith) in
-        let yes : is_last rows b ≡ true = ap (is_last rows) (sym e) ∙ is_last_of rows u held in cc
+    by u held behind (inl e) = let number : last_local rows u ≡ b.usn = ap (λ (l : Local). l.usn) e in absurd (omega arith)
     by u held behind (inr m) = m
 
-pub next_found : (rows : List Held) (usn : ℕ) (b : Local) (bs : List Local) → IsLeft rows usn (b ∷ bs) → usn < b.usn → is_last rows b ≡ true → IsNextLocal rows usn (Some b.usn)
-next_found rows usn b bs left behind last =
-    let t = last_tells rows b last in
-    (behind, (t.0, t.2, t.3), λ u held more. least u (left.has u held more))
+pub next_found : (rows : List Held) (usn : ℕ) (b : Local) (bs : List Local) → IsLeft rows usn (b ∷ bs) → usn < b.usn → IsNextLocal rows usn (Some b.usn)
+next_found rows usn b bs left behind = (behind, λ u held more. least u (left.has u held more))
   where
     least : (u : Named) → Member (local_at u (last_local rows u)) (b ∷ bs) → b.usn ≤ last_local rows u
     least u (inl e) = let number : last_local rows u ≡ b.usn = ap (λ (l : Local). l.usn) e in omega arith

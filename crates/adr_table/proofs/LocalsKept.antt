@@ -20,13 +20,13 @@ use Rattle.adr_model.specs.Change.{stripped, without_object, goes_with}
 use Rattle.adr_model.specs.Serve.{last_local}
 use Rattle.adr_law_knowledge.proofs.RisingHeld.{of_with_row}
 use Rattle.adr_update.specs.Sought.{rows_of_unit}
-use Rattle.adr_table.specs.declared.place.Place.{Place}
+use Rattle.adr_shelves.specs.declared.place.Place.{Place}
 use Rattle.adr_table.specs.declared.slots.Slots.{Slots}
 use Rattle.adr_table.specs.declared.locals.Local.{Local}
-use Rattle.adr_table.specs.Place.{place_order}
+use Rattle.adr_shelves.specs.Place.{place_order}
 use Rattle.adr_table.specs.Slots.{rows_seen}
 use Rattle.adr_table.specs.Locals.{local_order, local_of, unit_place, AreLocated, above, greatest, is_last, is_number, is_of_seat, rows_of_seat}
-use Rattle.adr_table.proofs.Places.{exact_options, exact_places}
+use Rattle.adr_shelves.proofs.Places.{exact_options, exact_places}
 use Rattle.adr_table.proofs.LocalsSeats.{rows_of, same_itself, seat_is, seat_tells, units_tell}
 
 pub exact_locals : CmpEqualImpliesEq local_order

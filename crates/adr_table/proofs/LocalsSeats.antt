@@ -19,14 +19,14 @@ use Rattle.adr_model.proofs.Keys.{equal_order}
 use Rattle.adr_model.specs.Update.{Key, RowOf, LinkOf, same_unit, unit_of}
 use Rattle.adr_model.specs.Store.{Held}
 use Rattle.adr_update.specs.Sought.{rows_of_unit}
-use Rattle.adr_table.specs.declared.place.Place.{Place}
-use Rattle.adr_table.specs.Place.{place_of, place_order}
+use Rattle.adr_shelves.specs.declared.place.Place.{Place}
+use Rattle.adr_shelves.specs.Place.{place_of, place_order, seat_at}
 use Rattle.adr_table.specs.Slots.{seen, AreAtHome}
-use Rattle.adr_table.specs.Locals.{unit_place, seat_at, unit_at, is_of_seat, rows_of_seat}
-use Rattle.adr_table.proofs.Seen.{Entries, AreSorted}
+use Rattle.adr_table.specs.Locals.{unit_place, unit_at, is_of_seat, rows_of_seat}
+use Rattle.adr_shelves.proofs.Entries.{Entries, AreSorted}
 use Rattle.adr_table.proofs.Runs.{between, none_first, tied_then}
 use Rattle.adr_table.proofs.Spans.{behind, from_start, tested, begun, Walk}
-use Rattle.adr_table.proofs.Places.{places_total, exact_places, then_then}
+use Rattle.adr_shelves.proofs.Places.{places_total, exact_places, then_then}
 
 -- ---- the order of units
 

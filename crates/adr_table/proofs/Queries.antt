@@ -18,11 +18,11 @@ use Rattle.adr_model.specs.Update.{Identifier, Key, RowOf, LinkOf, Update, key_o
 use Rattle.adr_model.specs.Store.{Held, holds_object, is_row_of, row_held, updates_of}
 use Rattle.adr_model.specs.Write.{holds_guid, is_of_guid}
 use Rattle.adr_update.specs.Sought.{is_link_from, rows_of_unit}
-use Rattle.adr_table.specs.declared.place.Place.{Place}
-use Rattle.adr_table.specs.Place.{guid_start, links_start, place_of, place_order, rows_start}
+use Rattle.adr_shelves.specs.declared.place.Place.{Place}
+use Rattle.adr_shelves.specs.Place.{guid_start, links_start, place_of, place_order, rows_start}
 use Rattle.adr_table.specs.Slots.{AreAtHome, rows_in_run, seen}
-use Rattle.adr_table.proofs.Places.{order_is}
-use Rattle.adr_table.proofs.Seen.{Entries, AreSorted}
+use Rattle.adr_shelves.proofs.Places.{order_is}
+use Rattle.adr_shelves.proofs.Entries.{Entries, AreSorted}
 use Rattle.adr_table.proofs.Stripped.{in_guid_run, in_links_run, in_rows_run}
 
 -- ---- tests that agree

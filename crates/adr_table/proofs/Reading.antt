@@ -6,10 +6,10 @@ use Rattle.std.specs.BTreeMap.Range.{IsLeBy}
 use Rattle.std.specs.Ordering.{is_gt}
 use Rattle.std.specs.declared.cmp.Ordering.TheVariants.{Less}
 use Rattle.adr_model.specs.Store.{Held}
-use Rattle.adr_table.specs.declared.place.Place.{Place}
-use Rattle.adr_table.specs.Place.{IsStart, place_order, is_in_run}
+use Rattle.adr_shelves.specs.declared.place.Place.{Place}
+use Rattle.adr_shelves.specs.Place.{IsStart, place_order, is_in_run}
 use Rattle.adr_table.specs.Slots.{seen, AreAtHome, rows_in_run}
-use Rattle.adr_table.proofs.Seen.{Entries, AreSorted}
+use Rattle.adr_shelves.proofs.Entries.{Entries, AreSorted}
 use Rattle.adr_table.proofs.Runs.{run_behind, run_between}
 use Rattle.adr_table.proofs.Spans.{behind, from_start, tested, begun, Walk}
 

@@ -3,7 +3,7 @@ use Rattle.std.proofs.Common.{◌≡◌, ◌⊎◌, inl, inr, refl, sym, ap, ◌
 use Rattle.std.specs.Prelude.{IsSome, is_some}
 use Rattle.std.specs.Map.{keys_of, lookup}
 use Rattle.std.specs.Option.{option_map}
-use Rattle.std.specs.BTreeMap.{BTreeMap, get, is_at}
+use Rattle.std.specs.BTreeMap.{is_at}
 use Rattle.std.specs.BTreeSet.{BTreeSet, contains}
 use Rattle.std.proofs.lemmas.Bool.{cases_lt}
 use Rattle.std.proofs.lemmas.List.{get_or_default}
@@ -12,29 +12,21 @@ use Rattle.adr_values.specs.declared.stamp.Oid.{Oid}
 use Rattle.adr_model.proofs.Keys.{equal_order}
 use Rattle.adr_model.specs.Update.{Key, RowOf, LinkOf}
 use Rattle.adr_model.specs.Store.{Held, with_row}
-use Rattle.adr_table.specs.declared.place.Place.{Place}
+use Rattle.adr_shelves.specs.declared.place.Place.{Place}
 use Rattle.adr_table.specs.declared.slots.Slots.{Slots}
 use Rattle.adr_table.specs.declared.back.Behind.{Behind}
 use Rattle.adr_table.specs.declared.locals.Local.{Local}
 use Rattle.adr_table.specs.declared.table.Table.{Table}
-use Rattle.adr_table.specs.Place.{place_of, place_order}
-use Rattle.adr_table.specs.Slots.{HasSlot, IsTidy, flat, places, row_at, rows_seen}
+use Rattle.adr_shelves.specs.Place.{place_of, place_order}
+use Rattle.adr_table.specs.Slots.{HasSlot, IsTidy, places, row_at, rows_seen}
 use Rattle.adr_table.specs.Back.{AreBacked, IsHinted, behind_order, hint, link_behind}
 use Rattle.adr_table.specs.Deaths.{IsListed}
 use Rattle.adr_table.specs.Locals.{IsLocated}
 use Rattle.adr_table.specs.Table.{HasRoom, HaveRoom, IsKept}
 use Rattle.adr_table.proofs.LocalsKept.{each_same, each_written}
-use Rattle.adr_table.proofs.Seen.{Entries}
-use Rattle.adr_table.proofs.Places.{exact_places, same_place}
+use Rattle.adr_shelves.proofs.Entries.{Entries}
+use Rattle.adr_shelves.proofs.Places.{same_place}
 use Rattle.adr_table.proofs.Behinds.{exact_behinds}
-
--- a place without a slot
-pub none_there : (map : BTreeMap Place (Option Held)) (p q : Place) → get place_order map p ≡ None → flat (get place_order map q) ≡ cond (is_at (place_order p) q) None (flat (get place_order map q))
-none_there map p q none = by (is_at (place_order p) q) refl
-  where
-    by : (b : Bool) → is_at (place_order p) q ≡ b → flat (get place_order map q) ≡ cond b None (flat (get place_order map q))
-    by true at = subst (λ r. flat (get place_order map r) ≡ None) (exact_places p q (equal_order (place_order p q) at)) (ap flat none)
-    by false at = refl
 
 pub still_none : (b : Bool) (o : Option Held) → o ≡ None → cond b None o ≡ None
 still_none true o e = refl
@@ -55,7 +47,7 @@ by_keys test (e ∷ es) = by (test e.0) (by_keys test es)
 -- slots of the same places
 pub slot_stays : (old new : Slots) → places new ≡ places old → (q : Place) → HasSlot old q → HasSlot new q
 slot_stays old new same q some =
-    by_keys (is_at (place_order q)) new.map.entries ∙ ap (any_key (is_at (place_order q))) same ∙ sym (by_keys (is_at (place_order q)) old.map.entries) ∙ some
+    by_keys (is_at (place_order q)) new.map ∙ ap (any_key (is_at (place_order q))) same ∙ sym (by_keys (is_at (place_order q)) old.map) ∙ some
 
 pub room_stays : (old new : Slots) (back : BTreeSet Behind) (dead : BTreeSet Oid) (locals : BTreeSet Local) → places new ≡ places old → (h : Held)
     → HasRoom (record { slots = old; back = back; dead = dead; locals = locals }) h → HasRoom (record { slots = new; back = back; dead = dead; locals = locals }) h

@@ -1,10 +1,11 @@
 -- Runs of places, which are emptied from one to the next.
-use Rattle.std.proofs.Common.{◌≡◌, refl, sym, ap, ◌∙◌, subst, arith, ℕ, ◌+◌, ◌≤◌, List, [], ◌∷◌, length, Bool, true, false, cond, not, ◌&&◌, ◌||◌, Option, Some, None}
-use Rattle.std.specs.Prelude.{◌↔◌, IsSome, nat_le, nat_lt}
+use Rattle.std.proofs.Common.{◌≡◌, refl, sym, ap, ◌∙◌, subst, arith, ℕ, ◌+◌, ◌≤◌, List, [], ◌∷◌, Bool, true, false, cond, not, ◌&&◌, ◌||◌, Option, Some, None}
+use Rattle.std.specs.Prelude.{◌↔◌, IsSome, is_some, nat_le, nat_lt}
+use Rattle.std.specs.List.{AllByRecursion}
 use Rattle.std.specs.Option.{is_none, option_cmp}
 use Rattle.std.specs.Map.{keys_of, lookup}
-use Rattle.std.specs.BTreeMap.{get, is_at}
-use Rattle.std.specs.BTreeMap.Range.{is_from_start, IsFromStart, IsLeBy}
+use Rattle.std.specs.BTreeMap.{is_at}
+use Rattle.std.specs.BTreeMap.Range.{entries_between, is_from_start, IsFromStart, IsLeBy}
 use Rattle.std.specs.Ordering.{nat_cmp, bool_cmp, is_eq, is_gt, is_le, is_lt, ordering_then, ordering_reverse}
 use Rattle.std.specs.declared.ops.Bound.{Bound}
 use Rattle.std.specs.declared.ops.Bound.TheVariants.{Included, Excluded, Unbounded}
@@ -14,6 +15,7 @@ use Rattle.std.specs.Cmp.{IsTotalOrder, bool_cmp_total}
 use Rattle.std.specs.Cmp.Lexicographic.{options_total}
 use Rattle.adr_values.specs.contracts.stamp.BirthOrd.TheImpl.Laws.{total-law as births_total}
 use Rattle.std.proofs.lemmas.Cmp.{tied_itself, upto, nat_list_cmp_total}
+use Rattle.std.proofs.lemmas.Map.Keys.{sorted_head, sorted_tail}
 use Rattle.std.proofs.lemmas.Map.Lookups.{CmpEqualImpliesEq, exact_bytes}
 use Rattle.std.proofs.lemmas.Bool.Decides.{nat_tests}
 use Rattle.adr_values.specs.declared.stamp.Oid.{Oid}
@@ -22,12 +24,14 @@ use Rattle.adr_values.specs.Order.{identifier_order, birth_order, object_order}
 use Rattle.adr_model.proofs.Keys.{equal_order}
 use Rattle.adr_model.specs.Update.{same_identifier}
 use Rattle.adr_model.specs.Store.{Held}
-use Rattle.adr_table.specs.declared.place.Place.{Place}
+use Rattle.adr_shelves.specs.declared.place.Place.{Place}
 use Rattle.adr_table.specs.declared.slots.Slots.{Slots}
-use Rattle.adr_table.specs.Place.{IsStart, place_order, is_in_run}
-use Rattle.adr_table.specs.Slots.{flat, row_at}
-use Rattle.adr_table.proofs.Places.{places_total, exact_places, exact_flags, exact_options}
-use Rattle.adr_table.proofs.Seen.{Entries}
+use Rattle.adr_shelves.specs.Place.{IsStart, place_order, is_in_run}
+use Rattle.adr_shelves.specs.Shelves.{flat}
+use Rattle.adr_table.specs.Slots.{row_at}
+use Rattle.adr_shelves.proofs.Places.{places_total, exact_places, exact_flags, exact_options}
+use Rattle.adr_update.proofs.Slots.{still_some}
+use Rattle.adr_shelves.proofs.Entries.{AreSorted, Entries}
 use Rattle.adr_values.proofs.ExactOrders.{exact_births}
 
 -- ---- bounds
@@ -57,6 +61,85 @@ pub onward : (b : Bound Place) (p q : Place) → IsFromStart place_order b p →
 onward (Included a) p q from less = upto places_total a p q from (ap is_gt less)
 onward (Excluded a) p q from less = places_total.trans a p q from less
 onward Unbounded p q from less = tt
+
+-- ---- the first slot from a bound on
+
+passes : (a : Bool) → (a && not false) ≡ a
+passes true = refl
+passes false = refl
+
+at_itself : (p : Place) → is_at (place_order p) p ≡ true
+at_itself p = ap is_eq (tied_itself places_total p)
+
+-- what is found behind a place is so
+below_found : (p q : Place) (es : Entries) → AllByRecursion (λ r. place_order p r ≡ Less) (keys_of es) → IsSome (lookup (is_at (place_order q)) es) → place_order p q ≡ Less
+below_found p q [] below some = cc
+below_found p q (e ∷ es) below some = by (is_at (place_order q) e.0) refl some (below_found p q es below.1)
+  where
+    by : (b : Bool) → is_at (place_order q) e.0 ≡ b → IsSome (cond b (Some e.1) (lookup (is_at (place_order q)) es)) → (IsSome (lookup (is_at (place_order q)) es) → place_order p q ≡ Less) → place_order p q ≡ Less
+    by true at there later = subst (λ r. place_order p r ≡ Less) (sym (exact_places q e.0 (equal_order (place_order q e.0) at))) below.0
+    by false at there later = later there
+
+module _ (b : Bound Place) where
+  abbrev pub from_bound : Entries → Entries
+  from_bound es = entries_between place_order b Unbounded es
+
+  abbrev from : Place → Bool
+  from p = is_from_start place_order b p
+
+  inside : (p : Place) → (from p && not false) ≡ true → IsFromStart place_order b p
+  inside p is = from_told b p (sym (passes (from p)) ∙ is)
+
+  outside : (p q : Place) → (from p && not false) ≡ false → is_at (place_order q) p ≡ true → IsFromStart place_order b q → ⊥
+  outside p q out at here =
+      let wrong : true ≡ false = sym (subst (λ r. from r ≡ true) (exact_places q p (equal_order (place_order q p) at)) (from_tested b q here)) ∙ sym (passes (from p)) ∙ out in cc
+
+  -- what comes first is from the bound on, and has a slot
+  pub first_there : (es : Entries) (e : Place × Option Held) (rest : Entries) → from_bound es ≡ e ∷ rest → IsFromStart place_order b e.0 × IsSome (lookup (is_at (place_order e.0)) es)
+  first_there [] e rest is = cc
+  first_there (x ∷ xs) e rest is = by (from x.0 && not false) refl is (first_there xs e rest)
+    where
+      by : (t : Bool) → (from x.0 && not false) ≡ t → cond t (x ∷ from_bound xs) (from_bound xs) ≡ e ∷ rest
+          → (from_bound xs ≡ e ∷ rest → IsFromStart place_order b e.0 × IsSome (lookup (is_at (place_order e.0)) xs))
+          → IsFromStart place_order b e.0 × IsSome (cond (is_at (place_order e.0) x.0) (Some x.1) (lookup (is_at (place_order e.0)) xs))
+      by true t h later =
+          let same : x ≡ e = cc in
+          subst (λ y. IsFromStart place_order b y.0 × IsSome (cond (is_at (place_order y.0) x.0) (Some x.1) (lookup (is_at (place_order y.0)) xs))) same
+          (inside x.0 t, ap (λ a. is_some (cond a (Some x.1) (lookup (is_at (place_order x.0)) xs))) (at_itself x.0))
+      by false t h later = let more = later h in (more.0, still_some (is_at (place_order e.0) x.0) x.1 (lookup (is_at (place_order e.0)) xs) more.1)
+
+  -- no slot from the bound on is before it
+  pub first_least : (es : Entries) (e : Place × Option Held) (rest : Entries) → AreSorted es → from_bound es ≡ e ∷ rest
+      → (q : Place) → IsFromStart place_order b q → IsSome (lookup (is_at (place_order q)) es) → IsLeBy place_order e.0 q
+  first_least [] e rest sorted is q here there = cc
+  first_least (x ∷ xs) e rest sorted is q here there =
+      by (from x.0 && not false) refl is (is_at (place_order q) x.0) refl there (first_least xs e rest (sorted_tail place_order x.0 (keys_of xs) sorted))
+    where
+      by : (t : Bool) → (from x.0 && not false) ≡ t → cond t (x ∷ from_bound xs) (from_bound xs) ≡ e ∷ rest
+          → (a : Bool) → is_at (place_order q) x.0 ≡ a → IsSome (cond a (Some x.1) (lookup (is_at (place_order q)) xs))
+          → (from_bound xs ≡ e ∷ rest → (r : Place) → IsFromStart place_order b r → IsSome (lookup (is_at (place_order r)) xs) → IsLeBy place_order e.0 r)
+          → IsLeBy place_order e.0 q
+      by true t h true at some later =
+          let same : x ≡ e = cc in
+          subst (λ y. is_gt (place_order y.0 q) ≡ false) same
+          (subst (λ r. is_gt (place_order x.0 r) ≡ false) (sym (exact_places q x.0 (equal_order (place_order q x.0) at))) (ap is_gt (tied_itself places_total x.0)))
+      by true t h false at some later =
+          let same : x ≡ e = cc in
+          subst (λ y. is_gt (place_order y.0 q) ≡ false) same (ap is_gt (below_found x.0 q xs (sorted_head place_order x.0 (keys_of xs) sorted) some))
+      by false t h true at some later = absurd (outside x.0 q t at here)
+      by false t h false at some later = later h q here some
+
+  -- where nothing comes, there is no slot
+  pub first_none : (es : Entries) → from_bound es ≡ [] → (q : Place) → IsFromStart place_order b q → lookup (is_at (place_order q)) es ≡ None
+  first_none [] is q here = refl
+  first_none (x ∷ xs) is q here = by (from x.0 && not false) refl is (is_at (place_order q) x.0) refl (first_none xs)
+    where
+      by : (t : Bool) → (from x.0 && not false) ≡ t → cond t (x ∷ from_bound xs) (from_bound xs) ≡ []
+          → (a : Bool) → is_at (place_order q) x.0 ≡ a → (from_bound xs ≡ [] → (r : Place) → IsFromStart place_order b r → lookup (is_at (place_order r)) xs ≡ None)
+          → cond a (Some x.1) (lookup (is_at (place_order q)) xs) ≡ None
+      by true t h a at later = cc
+      by false t h true at later = absurd (outside x.0 q t at here)
+      by false t h false at later = later h q here
 
 -- ---- what is in a run
 
@@ -215,32 +298,6 @@ fewer_by_one test more p out within f (e ∷ es) there = by (is_at (place_order 
         here (test e.0) (more e.0) (subst (λ q. test q ≡ false) same out) (subst (λ q. more q ≡ true) same within) (fewer test more f es)
     by false at some rest = later (test e.0) (more e.0) (f e.0) (rest some)
 
-pub count_none : (test : Place → Bool) (es : Entries) → count test es ≤ length es
-count_none test [] = omega arith
-count_none test (e ∷ es) = by (test e.0) (count_none test es)
-  where
-    by : (b : Bool) → count test es ≤ length es → cond b (1 + count test es) (count test es) ≤ length (e ∷ es)
-    by true h = omega (arith, h)
-    by false h = omega (arith, h)
-
--- where none is left, no place that is left has a slot
-pub none_left : (test : Place → Bool) (es : Entries) → count test es ≤ 0 → (q : Place) → test q ≡ true → lookup (is_at (place_order q)) es ≡ None
-none_left test [] none q t = refl
-none_left test (e ∷ es) none q t = by (is_at (place_order q) e.0) refl (test e.0) refl none (λ h. none_left test es h q t)
-  where
-    by : (b : Bool) → is_at (place_order q) e.0 ≡ b → (a : Bool) → test e.0 ≡ a → cond a (1 + count test es) (count test es) ≤ 0 → (count test es ≤ 0 → lookup (is_at (place_order q)) es ≡ None)
-        → cond b (Some e.1) (lookup (is_at (place_order q)) es) ≡ None
-    by true at a is h later =
-        let same : q ≡ e.0 = exact_places q e.0 (equal_order (place_order q e.0) at) in
-        let yes : a ≡ true = sym is ∙ subst (λ p. test p ≡ true) same t in
-        absurd (too_many a yes h)
-      where
-        too_many : (a : Bool) → a ≡ true → cond a (1 + count test es) (count test es) ≤ 0 → ⊥
-        too_many true y h = omega (arith, h)
-        too_many false y h = cc
-    by false at true is h later = absurd (omega (arith, h))
-    by false at false is h later = later h
-
 abbrev countk : (Place → Bool) → List Place → ℕ
 countk test [] = 0
 countk test (p ∷ ps) = cond (test p) (1 + countk test ps) (countk test ps)
@@ -270,15 +327,15 @@ module _ (start : Place) (from : Bound Place) (slots : Slots) (init : Place → 
       by true true x y e = none q x y
 
   -- no place of the run has a slot behind one that isn't of the run
-  pub passed : (p : Place) → is_in_run start p ≡ false → IsLeBy place_order start p → ((q : Place) → IsFromStart place_order from q → IsSome (get place_order slots.map q) → IsLeBy place_order p q)
+  pub passed : (p : Place) → is_in_run start p ≡ false → IsLeBy place_order start p → ((q : Place) → IsFromStart place_order from q → IsSome (lookup (is_at (place_order q)) slots.map) → IsLeBy place_order p q)
       → (q : Place) → is_in_run start q ≡ true → is_from_start place_order from q ≡ true → row_at slots q ≡ None
-  passed p out above first q r f = by (get place_order slots.map q) (first q (from_told from q f))
+  passed p out above first q r f = by (lookup (is_at (place_order q)) slots.map) (first q (from_told from q f))
     where
       by : (o : Option (Option Held)) → (IsSome o → IsLeBy place_order p q) → flat o ≡ None
       by None h = refl
       by (Some v) h = let yes : is_in_run start p ≡ true = run_between start p q above (h refl) r in let no : false ≡ true = sym out ∙ yes in cc
 
-  pub stepped : (p : Place) → is_in_run start p ≡ true → IsFromStart place_order from p → ((q : Place) → IsFromStart place_order from q → IsSome (get place_order slots.map q) → IsLeBy place_order p q)
+  pub stepped : (p : Place) → is_in_run start p ≡ true → IsFromStart place_order from p → ((q : Place) → IsFromStart place_order from q → IsSome (lookup (is_at (place_order q)) slots.map) → IsLeBy place_order p q)
       → (next : Option Held) (q : Place) → next ≡ cond (is_at (place_order p) q) None (row_at slots q) → next ≡ cond (is_in_run start q && not (is_lt (place_order p q))) None (init q)
   stepped p within here first next q e = by (place_order p q) refl e
     where
@@ -294,7 +351,7 @@ module _ (start : Place) (from : Bound Place) (slots : Slots) (init : Place → 
       before : (r f : Bool) → is_from_start place_order from q ≡ f → place_order p q ≡ Greater → row_at slots q ≡ cond (r && not f) None (init q) → row_at slots q ≡ cond (r && true) None (init q)
       before false f y above h = h
       before true false y above h = h
-      before true true y above h = bare (get place_order slots.map q) (first q (from_told from q y))
+      before true true y above h = bare (lookup (is_at (place_order q)) slots.map) (first q (from_told from q y))
         where
           bare : (o : Option (Option Held)) → (IsSome o → IsLeBy place_order p q) → flat o ≡ None
           bare None g = refl

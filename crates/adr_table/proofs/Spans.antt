@@ -12,10 +12,10 @@ use Rattle.std.specs.declared.cmp.Ordering.TheVariants.{Less, Equal, Greater}
 use Rattle.std.proofs.lemmas.List.Kept.{IsStrictlySortedBy-filter}
 use Rattle.std.proofs.lemmas.Map.Keys.{sorted_head, sorted_tail}
 use Rattle.adr_model.specs.Store.{Held}
-use Rattle.adr_table.specs.declared.place.Place.{Place}
-use Rattle.adr_table.specs.Place.{place_of, place_order}
+use Rattle.adr_shelves.specs.declared.place.Place.{Place}
+use Rattle.adr_shelves.specs.Place.{place_of, place_order}
 use Rattle.adr_table.specs.Slots.{seen, AreAtHome}
-use Rattle.adr_table.proofs.Seen.{Entries, AreSorted}
+use Rattle.adr_shelves.proofs.Entries.{Entries, AreSorted}
 
 -- ---- what is behind a place
 

@@ -19,12 +19,14 @@ use Rattle.adr_model.specs.Update.{Identifier, Key, RowOf, LinkOf, same_identifi
 use Rattle.adr_model.specs.Write.{is_of_guid}
 use Rattle.adr_model.specs.Store.{Held, is_row_of}
 use Rattle.adr_model.specs.Change.{goes_with}
-use Rattle.adr_table.specs.declared.place.Place.{Place}
-use Rattle.adr_table.specs.Place.{place_of, place_order, is_in_run, guid_start, links_start, rows_start, values_start}
-use Rattle.adr_table.specs.Slots.{seen, flat, AreAtHome}
+use Rattle.adr_shelves.specs.declared.place.Place.{Place}
+use Rattle.adr_shelves.specs.Place.{place_of, place_order, is_in_run, guid_start, links_start, rows_start, values_start}
+use Rattle.adr_shelves.specs.Shelves.{flat}
+use Rattle.adr_table.specs.Slots.{seen, AreAtHome}
 use Rattle.adr_update.specs.Sought.{is_link_from, is_link_to}
-use Rattle.adr_table.proofs.Places.{places_total, exact_places}
-use Rattle.adr_table.proofs.Seen.{Entries, AreSorted, later_none}
+use Rattle.adr_shelves.proofs.Places.{places_total, exact_places}
+use Rattle.adr_shelves.proofs.Entries.{Entries, AreSorted}
+use Rattle.adr_table.proofs.Seen.{later_none}
 
 above_reserved : (a : ℕ) → nat_le 4 a ≡ nat_lt 3 a
 above_reserved a = grind (arith, nat_tests)

@@ -9,11 +9,11 @@ use Rattle.adr_values.specs.Order.{object_order}
 use Rattle.adr_values.specs.declared.stamp.LinkKey.{LinkKey}
 use Rattle.adr_model.specs.Update.{Key, RowOf, LinkOf}
 use Rattle.adr_model.specs.Store.{Held}
-use Rattle.adr_table.specs.declared.place.Place.{Place}
+use Rattle.adr_shelves.specs.declared.place.Place.{Place}
 use Rattle.adr_table.specs.declared.slots.Slots.{Slots}
 use Rattle.adr_table.specs.declared.back.Source.{Source}
 use Rattle.adr_table.specs.declared.back.Behind.{Behind}
-use Rattle.adr_table.specs.Place.{place_of, place_order}
+use Rattle.adr_shelves.specs.Place.{place_of, place_order}
 use Rattle.adr_table.specs.Slots.{row_at}
 
 abbrev pub source_order : Source → Source → Ordering

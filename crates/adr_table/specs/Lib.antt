@@ -1,4 +1,3 @@
-pub mod Place
 pub mod Slots
 pub mod Back
 pub mod Deaths

@@ -12,10 +12,10 @@ use Rattle.adr_values.specs.declared.stamp.Oid.{Oid}
 use Rattle.adr_model.specs.Member.{Each}
 use Rattle.adr_model.specs.Update.{unit_of}
 use Rattle.adr_model.specs.Store.{Held}
-use Rattle.adr_table.specs.declared.place.Place.{Place}
+use Rattle.adr_shelves.specs.declared.place.Place.{Place}
 use Rattle.adr_table.specs.declared.slots.Slots.{Slots}
 use Rattle.adr_table.specs.declared.locals.Local.{Local}
-use Rattle.adr_table.specs.Place.{place_of, place_order}
+use Rattle.adr_shelves.specs.Place.{place_of, place_order, seat_at}
 use Rattle.adr_table.specs.Slots.{rows_seen}
 
 abbrev pub local_order : Local → Local → Ordering
@@ -25,10 +25,6 @@ local_order a b = ordering_then (nat_cmp a.usn b.usn) (option_cmp place_order a.
 abbrev pub unit_place : Named → Place
 unit_place (Object o) = record { is_link = false; guid = o.guid; birth = Some o.birth; attr = 0; other = None }
 unit_place (Link l) = record { is_link = true; guid = l.from.guid; birth = Some l.from.birth; attr = l.attr; other = Some l.to }
-
--- the place of the unit whose row stands at a place
-abbrev pub seat_at : Place → Place
-seat_at p = record { is_link = p.is_link; guid = p.guid; birth = p.birth; attr = cond p.is_link p.attr 0; other = cond p.is_link p.other None }
 
 -- the unit of a place, if it is that of one
 abbrev pub unit_at : Place → Option Named

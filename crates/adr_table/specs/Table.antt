@@ -2,7 +2,7 @@
 use Rattle.std.specs.Prelude.{ℕ, ◌<◌, List, length, slice_index_or}
 use Rattle.adr_model.specs.Store.{Held}
 use Rattle.adr_table.specs.declared.table.Table.{Table}
-use Rattle.adr_table.specs.Place.{place_of}
+use Rattle.adr_shelves.specs.Place.{place_of}
 use Rattle.adr_table.specs.Slots.{HasSlot, IsTidy, rows_seen}
 use Rattle.adr_table.specs.Back.{AreBacked, IsHinted}
 use Rattle.adr_table.specs.Deaths.{AreListed, IsListed}

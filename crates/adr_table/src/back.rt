@@ -7,15 +7,15 @@ ghost use Rattle.adr_model.specs.Update.{Key as Named};
 ghost use Rattle.adr_update.specs.Key.{key_of};
 ghost use Rattle.adr_update.specs.Referents.{referents};
 ghost use Rattle.adr_update.specs.Sought.{is_link_to};
-ghost use Rattle.adr_table.specs.Place.{place_of};
+ghost use Rattle.adr_shelves.specs.Place.{place_of};
 ghost use Rattle.adr_table.specs.Slots.{IsTidy, places, row_at, rows_seen};
 ghost use Rattle.adr_table.specs.Back.{AreBacked, IsHinted, behind_order, hint, is_place_of, link_behind, row_of_link};
 ghost use Rattle.adr_table.specs.declared.back.Behind.{Behind as Hint};
-ghost use Rattle.adr_table.specs.declared.place.Place.{Place as Seat};
+ghost use Rattle.adr_shelves.specs.declared.place.Place.{Place as Seat};
 
 use crate::NoMemory;
-use crate::place::Place;
 use crate::slots::{Slots, push_row};
+use adr_shelves::Place;
 use adr_update::{Held, Key};
 use adr_values::{LinkKey, Oid};
 use std::alloc::Global;

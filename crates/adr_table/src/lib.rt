@@ -1,9 +1,12 @@
 //! A table of rows: a row, the rows of an object, the links at an object and the counts are looked up, and writes happen
 //! whole or not at all.
 //!
-//! Rows stand in slots, in one ordered map in the order of their keys. A write first makes room: a slot and hints for each
-//! row. Then it can't fail. A single row may also be put at once, by one search. Slots without a row and hints without one
-//! are seen by nobody; they cost memory alone.
+//! Rows stand in slots. Those of an object stand on one shelf, in the order of their attributes, and each link has a shelf of
+//! its own. Shelves stand in one ordered map, in the order of their units, so that rows are in the order of their keys.
+//!
+//! A write first makes room: a slot and hints for each row. Then it can't fail. A single row may also be put at once, by one
+//! search of the map where its unit has a shelf. Slots without a row and hints without one are seen by nobody; they cost
+//! memory alone.
 //!
 //! It stands on `adr_update` and on the definitions in `adr_model`. It knows nothing of schemas, vectors or marks.
 #![tactic(auto)]
@@ -11,7 +14,6 @@
 mod back;
 mod deaths;
 mod locals;
-mod place;
 mod slots;
 mod spare;
 mod table;

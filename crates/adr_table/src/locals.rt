@@ -6,13 +6,13 @@ ghost use Rattle.std.specs.BTreeMap.{is_at};
 ghost use Rattle.std.specs.BTreeSet.{contains};
 ghost use Rattle.adr_model.specs.Store.{Held as Row};
 ghost use Rattle.adr_update.specs.Sought.{IsNextLocal, units_at};
-ghost use Rattle.adr_table.specs.Place.{place_order};
+ghost use Rattle.adr_shelves.specs.Place.{place_order, seat_at};
 ghost use Rattle.adr_table.specs.Slots.{IsTidy, rows_seen};
-ghost use Rattle.adr_table.specs.Locals.{AreLocated, IsLocated, above, greatest, is_last, local_of, local_order, rows_of_seat, seat_at, unit_at, unit_hinted};
+ghost use Rattle.adr_table.specs.Locals.{AreLocated, IsLocated, above, greatest, is_last, local_of, local_order, rows_of_seat, unit_at, unit_hinted};
 
 use crate::NoMemory;
-use crate::place::Place;
 use crate::slots::Slots;
+use adr_shelves::{Place, seat_at};
 use adr_update::Held;
 use adr_values::{LinkKey, Oid, Unit};
 use std::alloc::Global;
@@ -44,22 +44,6 @@ impl Local {
             usn,
             unit: Some(seat_at(place)),
         }
-    }
-}
-
-/// The place of the unit whose row stands at a place.
-fn seat_at(place: &Place) -> Place
-    ensures { result ≡ seat_at place.now }
-{
-    if place.is_link {
-        return *place;
-    }
-    Place {
-        is_link: false,
-        guid: place.guid,
-        birth: place.birth,
-        attr: 0,
-        other: None,
     }
 }
 
@@ -149,11 +133,12 @@ fn last_local(slots: &Slots, unit: Place) -> Option<u64>
     ensures { result ≡ greatest None (rows_of_seat unit (rows_seen slots.now)) }
 {
     let mut last = None;
-    for (place, slot) in slots.entries_from(unit) {
-        if !is_of_unit(&unit, place) {
+    let mut run = slots.entries_from(unit);
+    while let Some((place, row)) = run.next() {
+        if !is_of_unit(&unit, &place) {
             return last;
         }
-        if let Some(row) = slot {
+        if let Some(row) = row {
             last = Some(above(last, row.local()));
         }
     }
@@ -185,7 +170,7 @@ fn unit_hinted(slots: &Slots, hint: &Local) -> Option<Unit>
     }
 }
 
-/// The least number behind this one that is the last local update sequence number of a unit.
+/// The next number behind this one that may be the last local update sequence number of a unit: none lies between.
 pub(crate) fn next_local(slots: &Slots, locals: &BTreeSet<Local>, usn: u64) -> Option<u64>
     requires tidy { IsTidy slots.now }
     requires located { AreLocated slots.now locals.now }
@@ -193,7 +178,7 @@ pub(crate) fn next_local(slots: &Slots, locals: &BTreeSet<Local>, usn: u64) -> O
 {
     let start = Local { usn, unit: None };
     for hint in locals.range((Bound::Included(start), Bound::Unbounded)) {
-        if usn < hint.usn && is_last(slots, hint) {
+        if usn < hint.usn {
             return Some(hint.usn);
         }
     }
@@ -232,11 +217,12 @@ fn is_needed(slots: &Slots, hint: &Local) -> bool
     let Some(unit) = hint.unit else {
         return false;
     };
-    for (place, slot) in slots.entries_from(unit) {
-        if !is_of_unit(&unit, place) {
+    let mut run = slots.entries_from(unit);
+    while let Some((place, row)) = run.next() {
+        if !is_of_unit(&unit, &place) {
             return false;
         }
-        if let Some(row) = slot {
+        if let Some(row) = row {
             if row.local() == hint.usn {
                 return true;
             }

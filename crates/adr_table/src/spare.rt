@@ -6,9 +6,9 @@ ghost use Rattle.adr_table.specs.Locals.{IsLocated};
 ghost use Rattle.adr_table.specs.Table.{HasRoom, HaveRoom, IsKept, rows_in};
 
 use crate::locals::{Local, name};
-use crate::place::Place;
 use crate::table::Table;
 use crate::{NoMemory, back, deaths, locals};
+use adr_shelves::Place;
 use adr_update::{Held, Key};
 use adr_values::{LinkKey, Oid};
 use std::alloc::Global;

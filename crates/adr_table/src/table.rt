@@ -17,8 +17,8 @@ use crate::NoMemory;
 use crate::back::{Behind, rows_behind};
 use crate::deaths::deaths;
 use crate::locals::{Local, next_local, units_at};
-use crate::place::Place;
 use crate::slots::{Slots, push_row};
+use adr_shelves::Place;
 use adr_update::{Held, Key};
 use adr_values::{Guid, Oid, Unit};
 use std::alloc::Global;
@@ -169,7 +169,7 @@ impl Table {
         }
     }
 
-    /// The least number behind this one that is the last local update sequence number of a unit.
+    /// The next number behind this one that may be the last local update sequence number of a unit: none lies between.
     pub fn next_local(&self, usn: u64) -> Option<u64>
         requires { IsKept self.now }
         ensures { IsNextLocal (rows_in self.now) usn result }

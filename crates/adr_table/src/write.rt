@@ -1,22 +1,23 @@
 //! How rows are written into a table.
 
 ghost use Rattle.std.specs.Prelude.{◌≡◌, None, OnErr, OnOk, Some, fold};
+ghost use Rattle.std.specs.List.{All};
 ghost use Rattle.adr_model.specs.Change.{put, rows_after, stripped, without_object};
 ghost use Rattle.adr_model.specs.Store.{Held as Row};
-ghost use Rattle.adr_table.specs.Slots.{IsTidy, places, row_at, rows_seen};
+ghost use Rattle.adr_table.specs.Slots.{AreFull, IsTidy, places, row_at, rows_seen};
 ghost use Rattle.adr_table.specs.Back.{AreBacked};
 ghost use Rattle.adr_table.specs.Deaths.{AreListed};
 ghost use Rattle.adr_table.specs.Locals.{AreLocated};
 ghost use Rattle.adr_table.specs.Table.{HasRoom, HaveRoom, IsKept, rows_in};
-ghost use Rattle.adr_table.specs.declared.place.Place.{Place as Seat};
+ghost use Rattle.adr_shelves.specs.declared.place.Place.{Place as Seat};
 
 use crate::back::{Behind, empty_links_to, forget};
 use crate::locals::Local;
-use crate::place::Place;
 use crate::slots::Slots;
 use crate::spare::Spare;
 use crate::table::Table;
 use crate::{NoMemory, back, deaths, locals};
+use adr_shelves::Place;
 use adr_update::Held;
 use adr_values::{LinkKey, Oid};
 use std::alloc::Global;
@@ -32,7 +33,7 @@ fn strip(slots: &mut Slots, back: &BTreeSet<Behind>, object: &Oid)
     ensures places { places slots.new ≡ places slots.old }
 {
     empty_links_to(slots, back, object);
-    slots.empty_run(Place::before_values(object));
+    slots.empty_values(object);
     slots.empty_run(Place::before_links(object));
 }
 
@@ -42,9 +43,10 @@ fn free_all(slots: &mut Slots, objects: &[Oid])
     ensures seen { rows_seen slots.new ≡ rows_seen slots.old }
     ensures tidy { IsTidy slots.new }
     ensures same { (q : Seat) → row_at slots.new q ≡ row_at slots.old q }
+    ensures full { All (AreFull slots.new) objects.now }
 {
     for object in objects {
-        slots.free_run(Place::before_rows(object));
+        slots.free_object(object);
     }
 }
 

@@ -24,8 +24,8 @@ rows_of_unit rows unit = filter (λ h. same_unit (unit_of h.update.key) unit) ro
 abbrev pub units_at : List Held → ℕ → List Named
 units_at rows usn = filter (λ unit. last_local rows unit == usn) (units_of rows)
 
--- the least number behind this one that is the last local USN of a unit that is held, if there is one
+-- A number behind this one, with the last local USN of no unit that is held between them; or there is none behind it.
 abbrev pub IsNextLocal : List Held → ℕ → Option ℕ → Type 0
 IsNextLocal rows usn None = (unit : Named) → list_any (λ h. same_unit (unit_of h.update.key) unit) rows ≡ true → usn < last_local rows unit → ⊥
-IsNextLocal rows usn (Some next) = (usn < next) × ((unit : Named) × (list_any (λ h. same_unit (unit_of h.update.key) unit) rows ≡ true) × (last_local rows unit ≡ next))
-    × ((unit : Named) → list_any (λ h. same_unit (unit_of h.update.key) unit) rows ≡ true → usn < last_local rows unit → next ≤ last_local rows unit)
+IsNextLocal rows usn (Some next) =
+    (usn < next) × ((unit : Named) → list_any (λ h. same_unit (unit_of h.update.key) unit) rows ≡ true → usn < last_local rows unit → next ≤ last_local rows unit)

@@ -8,7 +8,7 @@ use Rattle.adr_model.specs.Update.{LinkOf, same_object}
 use Rattle.adr_model.specs.Store.{Held}
 use Rattle.adr_values.specs.declared.stamp.LinkKey.{LinkKey}
 use Rattle.adr_table.specs.declared.back.Behind.{Behind}
-use Rattle.adr_table.specs.Place.{place_of}
+use Rattle.adr_shelves.specs.Place.{place_of}
 use Rattle.adr_table.specs.Slots.{row_at}
 use Rattle.adr_table.specs.Back.{behind_order, hint, is_place_of, link_behind}
 use Rattle.adr_table.proofs.Behinds.{first_hints, hinted, other_row, own_row, stops_later, some_or_none}

@@ -3,8 +3,8 @@ use Rattle.std.specs.List.{list_any}
 use Rattle.std.specs.BTreeMap.{is_at}
 use Rattle.adr_values.specs.declared.stamp.LinkKey.{LinkKey}
 use Rattle.adr_model.specs.Update.{Key, LinkOf, same_object}
-use Rattle.adr_table.specs.declared.place.Place.{Place}
-use Rattle.adr_table.specs.Place.{place_of}
+use Rattle.adr_shelves.specs.declared.place.Place.{Place}
+use Rattle.adr_shelves.specs.Place.{place_of}
 use Rattle.adr_table.specs.Slots.{IsTidy, places, row_at}
 use Rattle.adr_update.specs.Sought.{is_link_to}
 use Rattle.adr_table.specs.Back.{behind_order, hint}

@@ -2,11 +2,11 @@ use Rattle.std.proofs.Common.{◌≡◌, ℕ, true, Some, ap, sym, ◌∙◌}
 use Rattle.std.specs.BTreeMap.{is_at}
 use Rattle.adr_model.specs.Update.{unit_of}
 use Rattle.adr_model.proofs.Keys.{equal_order}
-use Rattle.adr_table.specs.declared.place.Place.{Place}
+use Rattle.adr_shelves.specs.declared.place.Place.{Place}
 use Rattle.adr_table.specs.declared.locals.Local.{Local}
-use Rattle.adr_table.specs.Place.{place_of, place_order}
-use Rattle.adr_table.specs.Locals.{seat_at, unit_place}
-use Rattle.adr_table.proofs.Places.{exact_places}
+use Rattle.adr_shelves.specs.Place.{place_of, place_order, seat_at}
+use Rattle.adr_table.specs.Locals.{unit_place}
+use Rattle.adr_shelves.proofs.Places.{exact_places}
 use Rattle.adr_table.proofs.LocalsSeats.{seat_is}
 use Rattle.adr_table.proofs.locals.has_hint.Goals as goal
 

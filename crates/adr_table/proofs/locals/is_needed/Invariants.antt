@@ -1,3 +1,4 @@
+use Rattle.std.proofs.Common.{length}
 use Rattle.adr_table.specs.Slots.{rows_seen}
 use Rattle.adr_table.proofs.LocalsKept.{IsAny}
 use Rattle.adr_table.proofs.LocalsSeats.{at}
@@ -7,6 +8,8 @@ use Rattle.adr_table.proofs.locals.is_needed.Given as goal
 -- a row that has the hint is left, if there is one
 abbrev pub invariant-loop-place : goal.invariant-loop-place
 invariant-loop-place l =
-    (goal.iterator-loop-place).can_next l.place-iterator
-    × (goal.iterator-loop-place).is_finite l.place-iterator
-    × Walk (at l.unit) (IsAny l.hint (rows_seen l.slots)) l.place-iterator
+    Walk (at l.unit) (IsAny l.hint (rows_seen l.slots)) l.run
+
+-- fewer slots are left
+abbrev pub decreases-loop-place : goal.decreases-loop-place
+decreases-loop-place l = length l.run

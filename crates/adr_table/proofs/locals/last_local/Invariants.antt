@@ -1,3 +1,4 @@
+use Rattle.std.proofs.Common.{length}
 use Rattle.adr_table.specs.Slots.{rows_seen}
 use Rattle.adr_table.specs.Locals.{rows_of_seat}
 use Rattle.adr_table.proofs.LocalsKept.{IsGreatest}
@@ -8,6 +9,8 @@ use Rattle.adr_table.proofs.locals.last_local.Given as goal
 -- the greatest so far and of what is left is the greatest of all
 abbrev pub invariant-loop-place : goal.invariant-loop-place
 invariant-loop-place l =
-    (goal.iterator-loop-place).can_next l.place-iterator
-    × (goal.iterator-loop-place).is_finite l.place-iterator
-    × Walk (at l.unit) (IsGreatest (rows_of_seat l.unit (rows_seen l.slots)) l.last) l.place-iterator
+    Walk (at l.unit) (IsGreatest (rows_of_seat l.unit (rows_seen l.slots)) l.last) l.run
+
+-- fewer slots are left
+abbrev pub decreases-loop-place : goal.decreases-loop-place
+decreases-loop-place l = length l.run

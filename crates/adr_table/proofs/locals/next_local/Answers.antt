@@ -1,10 +1,9 @@
-use Rattle.std.proofs.Common.{◌∙◌, arith, subst, sym}
+use Rattle.std.proofs.Common.{◌∙◌, subst}
 use Rattle.std.specs.Map.Iter.{deref}
 use Rattle.std.proofs.lemmas.Map.Iter.{rest_more}
 use Rattle.adr_table.specs.Slots.{rows_seen}
 use Rattle.adr_table.proofs.LocalsFound.{IsLeft, all_left, next_found, passed}
 use Rattle.adr_table.proofs.locals.next_local.Goals as goal
-use Rattle.adr_table.proofs.locals.next_local.Goals.{else-usn-hint-via-then-usn-hint+else-is_last, else-usn-hint-via-else-usn-hint}
 
 pub loop-hint-init : goal.loop-hint-init
 loop-hint-init c =
@@ -14,20 +13,16 @@ loop-hint-init c =
       all_left c.args.slots.now c.args.locals.now c.args.usn c.into_iter-hint-iterator.result c.requires.located left c.range-hint-items.ensures.ordered,
     )
 
-pub returns-then-is_last : goal.returns-then-is_last
-returns-then-is_last c =
+pub returns-then-usn-hint : goal.returns-then-usn-hint
+returns-then-usn-hint c =
     let left = rest_more deref c.loop-hint.hint-iterator c.next.new.self c.next.result c.in-Some.hint c.in-Some.is c.next.ensures.steps in
     next_found (rows_seen c.args.slots.now) c.args.usn c.in-Some.hint.now c.next.new.self
-    (subst (IsLeft (rows_seen c.args.slots.now) c.args.usn) left c.loop-hint.invariant.2) c.if-usn-hint.true (sym c.is_last.ensures ∙ c.if-is_last.true)
+    (subst (IsLeft (rows_seen c.args.slots.now) c.args.usn) left c.loop-hint.invariant.2) c.if-usn-hint.true
 
 pub loop-hint-preserved : goal.loop-hint-preserved
 loop-hint-preserved c =
     let left = rest_more deref c.loop-hint.hint-iterator c.next.new.self c.next.result c.in-Some.hint c.in-Some.is c.next.ensures.steps in (
       tt,
       tt,
-      passed (rows_seen c.args.slots.now) c.args.usn c.in-Some.hint.now c.next.new.self (subst (IsLeft (rows_seen c.args.slots.now) c.args.usn) left c.loop-hint.invariant.2)
-          (λ behind. elim c.else-usn-hint.branch [
-            | else-usn-hint-via-then-usn-hint+else-is_last w ↦ sym w.is_last.ensures ∙ w.if-is_last.false
-            | else-usn-hint-via-else-usn-hint w ↦ absurd (omega arith)
-          ]),
+      passed (rows_seen c.args.slots.now) c.args.usn c.in-Some.hint.now c.next.new.self (subst (IsLeft (rows_seen c.args.slots.now) c.args.usn) left c.loop-hint.invariant.2) c.if-usn-hint.false,
     )

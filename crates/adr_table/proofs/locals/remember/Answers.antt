@@ -2,10 +2,10 @@ use Rattle.std.proofs.Common.{◌≡◌, ℕ, Some, ap, sym, ◌∙◌, subst}
 use Rattle.std.specs.Prelude.{IfSome}
 use Rattle.std.specs.BTreeSet.{contains}
 use Rattle.adr_model.specs.Update.{unit_of}
-use Rattle.adr_table.specs.declared.place.Place.{Place}
+use Rattle.adr_shelves.specs.declared.place.Place.{Place}
 use Rattle.adr_table.specs.declared.locals.Local.{Local}
-use Rattle.adr_table.specs.Place.{place_of}
-use Rattle.adr_table.specs.Locals.{IsLocated, local_of, local_order, seat_at, unit_place}
+use Rattle.adr_shelves.specs.Place.{place_of, seat_at}
+use Rattle.adr_table.specs.Locals.{IsLocated, local_of, local_order, unit_place}
 use Rattle.adr_table.proofs.LocalsSeats.{seat_is}
 use Rattle.adr_table.proofs.locals.remember.Goals as goal
 

@@ -1,5 +1,5 @@
 use Rattle.std.proofs.Common.{◌≡◌}
-use Rattle.adr_table.specs.declared.place.Place.{Place}
+use Rattle.adr_shelves.specs.declared.place.Place.{Place}
 use Rattle.adr_table.specs.Slots.{IsTidy, row_at, rows_seen}
 use Rattle.adr_table.specs.Back.{AreBacked}
 use Rattle.adr_table.proofs.write.forget_all.Given as goal

@@ -1,22 +1,35 @@
-use Rattle.std.proofs.Common.{◌∙◌, ap, sym, subst}
-use Rattle.adr_table.specs.Slots.{AreAtHome, seen, tally}
-use Rattle.adr_table.specs.Place.{is_of_class, is_of_link}
-use Rattle.adr_table.proofs.Freed.{freed_seen, freed_home, freed_same, freed_tally}
+use Rattle.std.proofs.Common.{◌≡◌, ◌∙◌, ap, refl, sym, ◌+◌, length}
+use Rattle.std.specs.Map.{keys_of, lookup}
+use Rattle.std.specs.BTreeMap.{is_at}
+use Rattle.adr_shelves.specs.Shelves.{flat, tally}
+use Rattle.adr_table.specs.Slots.{AreAtHome, seen}
+use Rattle.adr_shelves.specs.Place.{is_of_class, is_of_link, place_order}
+use Rattle.adr_table.proofs.Freed.{freed_fewer, freed_home, freed_or_same, freed_same, freed_seen, freed_tally}
 use Rattle.adr_table.proofs.slots.Slots.free.Goals as goal
 
-pub returns-then-is_empty_slot-clause-seen : goal.returns-then-is_empty_slot-clause-seen
-returns-then-is_empty_slot-clause-seen c =
-    ap seen c.remove.ensures.entries ∙ freed_seen c.args.self.now.map.entries c.args.place.now (c.is_empty_slot.ensures c.if-is_empty_slot.true)
+pub returns-clause-fewer : goal.returns-clause-fewer
+returns-clause-fewer c empty = ap (λ es. 1 + length (keys_of es)) (c.free.ensures.freed empty) ∙ freed_fewer c.args.self.now.map c.args.place.now empty
 
-pub returns-then-is_empty_slot-clause-tidy : goal.returns-then-is_empty_slot-clause-tidy
-returns-then-is_empty_slot-clause-tidy c =
+pub returns-clause-seen : goal.returns-clause-seen
+returns-clause-seen c =
+    let es = c.args.self.now.map in
+    freed_or_same (λ xs. seen xs ≡ seen es) es c.free.new.self c.args.place.now c.free.ensures.freed c.free.ensures.same refl (freed_seen es c.args.place.now)
+
+pub returns-clause-tidy : goal.returns-clause-tidy
+returns-clause-tidy c =
+    let es = c.args.self.now.map in
+    let new = c.free.new.self in
     record {
-      ordered = c.remove.ensures.ordered;
-      home = subst AreAtHome (sym c.remove.ensures.entries) (freed_home c.args.self.now.map.entries c.args.place.now c.requires.home);
-      objects = c.requires.objects ∙ sym (ap (tally is_of_class) c.remove.ensures.entries ∙ freed_tally is_of_class c.args.self.now.map.entries c.args.place.now (c.is_empty_slot.ensures c.if-is_empty_slot.true));
-      links = c.requires.links ∙ sym (ap (tally is_of_link) c.remove.ensures.entries ∙ freed_tally is_of_link c.args.self.now.map.entries c.args.place.now (c.is_empty_slot.ensures c.if-is_empty_slot.true));
+      ordered = c.are_in_order.ensures;
+      home = freed_or_same AreAtHome es new c.args.place.now c.free.ensures.freed c.free.ensures.same c.requires.home (λ empty. freed_home es c.args.place.now c.requires.home);
+      objects = c.requires.objects ∙ sym (freed_or_same (λ xs. tally is_of_class xs ≡ tally is_of_class es) es new c.args.place.now c.free.ensures.freed c.free.ensures.same
+          refl (freed_tally is_of_class es c.args.place.now));
+      links = c.requires.links ∙ sym (freed_or_same (λ xs. tally is_of_link xs ≡ tally is_of_link es) es new c.args.place.now c.free.ensures.freed c.free.ensures.same
+          refl (freed_tally is_of_link es c.args.place.now));
     }
 
-pub returns-then-is_empty_slot-clause-same : goal.returns-then-is_empty_slot-clause-same
-returns-then-is_empty_slot-clause-same c q =
-    freed_same c.args.self.now (record { map = c.remove.new.self; objects = c.args.self.now.objects; links = c.args.self.now.links }) c.args.place.now q (c.is_empty_slot.ensures c.if-is_empty_slot.true) (c.remove.ensures.updates.0 q)
+pub returns-clause-same : goal.returns-clause-same
+returns-clause-same c q =
+    let es = c.args.self.now.map in
+    freed_or_same (λ xs. flat (lookup (is_at (place_order q)) xs) ≡ flat (lookup (is_at (place_order q)) es)) es c.free.new.self c.args.place.now c.free.ensures.freed c.free.ensures.same
+    refl (freed_same es c.args.place.now q c.requires.ordered)

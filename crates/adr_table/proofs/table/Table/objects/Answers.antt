@@ -6,4 +6,4 @@ use Rattle.adr_table.proofs.table.Table.objects.Goals as goal
 pub returns : goal.returns
 returns c =
     c.requires.tidy.objects
-    ∙ objects_counted c.args.self.now.slots.map.entries c.requires.tidy.home (rise c.args.self.now.slots.map.entries c.requires.tidy.ordered c.requires.tidy.home)
+    ∙ objects_counted c.args.self.now.slots.map c.requires.tidy.home (rise c.args.self.now.slots.map c.requires.tidy.ordered c.requires.tidy.home)

@@ -1,8 +1,8 @@
 use Rattle.std.proofs.Common.{◌≡◌, ◌∙◌, ap, cond, None}
 use Rattle.adr_model.specs.Change.{without_object}
 use Rattle.adr_model.specs.Store.{is_row_of}
-use Rattle.adr_table.specs.declared.place.Place.{Place}
-use Rattle.adr_table.specs.Place.{is_in_run, place_of, rows_start}
+use Rattle.adr_shelves.specs.declared.place.Place.{Place}
+use Rattle.adr_shelves.specs.Place.{is_in_run, place_of, rows_start}
 use Rattle.adr_table.specs.Slots.{row_at, rows_seen}
 use Rattle.adr_table.specs.Deaths.{IsListed}
 use Rattle.adr_table.specs.Locals.{IsLocated}
@@ -19,8 +19,8 @@ fewer c q none = emptied c q ∙ still_none (is_in_run (rows_start c.args.object
 
 pub without : (c : goal.After-empty_run) → rows_seen c.empty_run.new.self ≡ without_object (rows_seen c.args.self.now.slots) c.args.object.now
 without c =
-    stripped_seen (is_row_of c.args.object.now) c.args.self.now.slots.map.entries c.empty_run.new.self.map.entries c.empty_run.ensures.places c.requires.tidy.ordered
-    (kept (is_row_of c.args.object.now) c.args.self.now.slots.map.entries c.empty_run.new.self.map.entries c.requires.tidy.home
+    stripped_seen (is_row_of c.args.object.now) c.args.self.now.slots.map c.empty_run.new.self.map c.empty_run.ensures.places c.requires.tidy.ordered
+    (kept (is_row_of c.args.object.now) c.args.self.now.slots.map c.empty_run.new.self.map c.requires.tidy.home
     (λ k. emptied c (place_of k) ∙ leaves c.args.object.now k (row_at c.args.self.now.slots (place_of k)))
     (fewer c))
 

@@ -1,9 +1,11 @@
 use Rattle.std.proofs.Common.{sym, ap, ◌∙◌, refl, subst}
 use Rattle.std.specs.Option.{option_map}
 use Rattle.adr_model.specs.Store.{Held}
-use Rattle.adr_table.specs.Place.{place_of}
+use Rattle.adr_update.specs.Key.{key_of}
+use Rattle.adr_shelves.specs.Place.{is_proper, place_of}
 use Rattle.adr_table.specs.Slots.{HasSlot, row_at}
 use Rattle.adr_table.proofs.Listed.{listed_held}
+use Rattle.adr_shelves.proofs.Places.{proper_place}
 use Rattle.adr_table.proofs.Rooms.{hinted_held, kept_more, mapped_some, room_more}
 use Rattle.adr_table.proofs.table.Table.reserve_one.Goals as goal
 
@@ -12,6 +14,9 @@ returns-in_err-remember-clause-kept c = kept_more c.args.self.now _ c.requires.k
 
 pub returns-in_err-remember-clause-more : goal.returns-in_err-remember-clause-more
 returns-in_err-remember-clause-more c h = room_more c.args.self.now _ h (λ q is. is) (λ k is. is) (λ k is. is) c.remember.ensures.more
+
+pub reserve-requires-clause-proper : goal.reserve-requires-clause-proper
+reserve-requires-clause-proper c = ap is_proper c.of.ensures ∙ proper_place (key_of c.key-key.result)
 
 pub returns-in_err-usn-clause-kept : goal.returns-in_err-usn-clause-kept
 returns-in_err-usn-clause-kept c = kept_more c.args.self.now _ c.requires.kept c.reserve.ensures.tidy c.reserve.ensures.seen c.reserve.ensures.same (λ k is. is) (λ k is. is) c.remember.ensures.more

@@ -10,5 +10,5 @@ pub returns-in-Link : goal.returns-in-Link
 returns-in-Link c =
     IfOk-weaker c.only.result _ _
     (λ rows is. is ∙ ap (λ r. cons_option r []) c.row.ensures
-    ∙ unit_of_link c.in-Link.link (rows_in c.args.self.now) (rise c.args.self.now.slots.map.entries c.requires.tidy.ordered c.requires.tidy.home)
+    ∙ unit_of_link c.in-Link.link (rows_in c.args.self.now) (rise c.args.self.now.slots.map c.requires.tidy.ordered c.requires.tidy.home)
     ∙ ap (rows_of_unit (rows_in c.args.self.now)) (sym c.in-Link.is)) c.only.ensures

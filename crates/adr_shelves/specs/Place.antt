@@ -1,12 +1,12 @@
 -- Where the row of a key stands, and runs of places.
-use Rattle.std.specs.Prelude.{◌≡◌, Some, None, Bool, true, false, ◌&&◌, ◌||◌, nat_le, nat_lt, ◌==◌, not}
+use Rattle.std.specs.Prelude.{◌≡◌, Some, None, Bool, true, false, ◌&&◌, ◌||◌, nat_le, nat_lt, ◌==◌, not, cond, ℕ}
 use Rattle.std.specs.Ordering.{nat_cmp, bool_cmp, is_eq, ordering_then}
 use Rattle.std.specs.Option.{is_none, option_cmp}
 use Rattle.std.specs.declared.cmp.Ordering.{Ordering}
 use Rattle.adr_values.specs.Order.{identifier_order, birth_order, object_order}
 use Rattle.adr_values.specs.declared.stamp.Oid.{Oid}
 use Rattle.adr_model.specs.Update.{Identifier, Key, RowOf, LinkOf, class_attr, same_identifier}
-use Rattle.adr_table.specs.declared.place.Place.{Place}
+use Rattle.adr_shelves.specs.declared.place.Place.{Place}
 
 abbrev pub place_of : Key → Place
 place_of (RowOf o a) = record { is_link = false; guid = o.guid; birth = Some o.birth; attr = a; other = None }
@@ -50,3 +50,15 @@ is_of_class p = not p.is_link && (p.attr == class_attr)
 
 abbrev pub is_of_link : Place → Bool
 is_of_link p = p.is_link
+
+-- the place of the unit whose row stands at a place
+abbrev pub seat_at : Place → Place
+seat_at p = record { is_link = p.is_link; guid = p.guid; birth = p.birth; attr = cond p.is_link p.attr 0; other = cond p.is_link p.other None }
+
+-- the place of an attribute of the unit at a seat
+abbrev pub place_in : Place → ℕ → Place
+place_in seat attr = record seat { attr = attr }
+
+-- whether a row may stand at the place: only a link's has another end
+abbrev pub is_proper : Place → Bool
+is_proper p = p.is_link || is_none p.other

@@ -13,9 +13,9 @@ use Rattle.adr_values.proofs.ExactOrders.{exact_births, exact_objects}
 use Rattle.std.specs.BTreeMap.{is_at}
 use Rattle.adr_model.proofs.Keys.{equal_order, exact_keys}
 use Rattle.adr_model.specs.Update.{Identifier, Key, RowOf, LinkOf, key_order}
-use Rattle.adr_table.specs.declared.place.Place.{Place}
-use Rattle.adr_table.specs.Place.{place_of, place_order}
-use Rattle.adr_table.specs.contracts.place.PlaceOrd.TheImpl.Laws.{total-law}
+use Rattle.adr_shelves.specs.declared.place.Place.{Place}
+use Rattle.adr_shelves.specs.Place.{is_proper, place_of, place_order}
+use Rattle.adr_shelves.specs.contracts.place.PlaceOrd.TheImpl.Laws.{total-law}
 
 pub places_total : IsTotalOrder place_order
 places_total = total-law
@@ -64,3 +64,8 @@ order_is (LinkOf k) (LinkOf l) =
 -- places of one key are of one key
 pub same_place : (j k : Key) → is_at (place_order (place_of j)) (place_of k) ≡ true → j ≡ k
 same_place j k at = exact_keys j k (sym (order_is j k) ∙ equal_order (place_order (place_of j) (place_of k)) at)
+
+-- a row may stand at the place of each key
+pub proper_place : (k : Key) → is_proper (place_of k) ≡ true
+proper_place (RowOf o a) = refl
+proper_place (LinkOf l) = refl

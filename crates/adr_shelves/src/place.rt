@@ -3,13 +3,10 @@
 ghost use Rattle.std.specs.Prelude.{◌≡◌};
 ghost use Rattle.adr_model.specs.Update.{LinkOf};
 ghost use Rattle.adr_update.specs.Key.{key_of};
-ghost use Rattle.adr_table.specs.Place.{IsStart, guid_start, is_in_run, is_of_class, links_start, place_of, rows_start, values_start};
+ghost use Rattle.adr_shelves.specs.Place.{IsStart, guid_start, is_in_run, is_of_class, is_proper, links_start, place_in, place_of, rows_start, seat_at};
 
 use adr_update::{CLASS, Key};
 use adr_values::{Birth, Guid, LinkKey, Oid};
-
-/// The first attribute whose rows go when the object dies.
-const FIRST_VALUE: u16 = 4;
 
 /// The place of a row of an object, which has no `other`, or of a link row, whose other end is `other`. No row stands at
 /// a place without a birth, nor at one of a link without an `other`: such places come before those of a GUID, or before
@@ -69,15 +66,15 @@ impl Place {
         }
     }
 
-    /// Where the rows or the links of an object begin, from an attribute on.
-    fn before(is_link: bool, object: &Oid, attr: u16) -> Place
-        ensures { result ≡ record { is_link = is_link; guid = object.now.guid; birth = Some object.now.birth; attr = attr; other = None } }
+    /// Where the rows or the links of an object begin.
+    fn before(is_link: bool, object: &Oid) -> Place
+        ensures { result ≡ record { is_link = is_link; guid = object.now.guid; birth = Some object.now.birth; attr = 0; other = None } }
     {
         Place {
             is_link,
             guid: object.guid,
             birth: Some(object.birth),
-            attr,
+            attr: 0,
             other: None,
         }
     }
@@ -87,15 +84,7 @@ impl Place {
         ensures place { result ≡ rows_start object.now }
         ensures start { IsStart result }
     {
-        Place::before(false, object, 0)
-    }
-
-    /// Where the rows of an object begin that aren't reserved.
-    pub fn before_values(object: &Oid) -> Place
-        ensures place { result ≡ values_start object.now }
-        ensures start { IsStart result }
-    {
-        Place::before(false, object, FIRST_VALUE)
+        Place::before(false, object)
     }
 
     /// Where the links from an object begin.
@@ -103,7 +92,27 @@ impl Place {
         ensures place { result ≡ links_start object.now }
         ensures start { IsStart result }
     {
-        Place::before(true, object, 0)
+        Place::before(true, object)
+    }
+
+    /// The place of an attribute of the unit here.
+    pub fn with_attr(&self, attr: u16) -> Place
+        ensures { result ≡ place_in self.now attr }
+    {
+        Place {
+            is_link: self.is_link,
+            guid: self.guid,
+            birth: self.birth,
+            attr,
+            other: self.other,
+        }
+    }
+
+    /// Whether a row may stand here: only a link's place has another end.
+    pub fn is_proper(&self) -> bool
+        ensures { result ≡ is_proper self.now }
+    {
+        self.is_link || self.other.is_none()
     }
 
     /// Whether class rows stand here.
@@ -122,5 +131,21 @@ impl Place {
             && self.guid.cmp(&place.guid).is_eq()
             && (self.birth.is_none()
                 || (self.birth.cmp(&place.birth).is_eq() && self.attr <= place.attr))
+    }
+}
+
+/// The place of the unit whose row stands at a place.
+pub fn seat_at(place: &Place) -> Place
+    ensures { result ≡ seat_at place.now }
+{
+    if place.is_link {
+        return *place;
+    }
+    Place {
+        is_link: false,
+        guid: place.guid,
+        birth: place.birth,
+        attr: 0,
+        other: None,
     }
 }

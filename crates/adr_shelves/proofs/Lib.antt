@@ -1,0 +1,9 @@
+pub mod Entries
+pub mod Places
+pub mod ShelfPlaces
+pub mod Shelved
+pub mod ShelvedEmptied
+pub mod ShelvedFrees
+pub mod ShelvedRuns
+pub mod ShelvedUnits
+pub mod ShelvedWrites

@@ -1,0 +1,66 @@
+-- Shelves: the slots of a unit stand side by side, each at the place of its attribute.
+use Rattle.std.specs.Prelude.{◌≡◌, ℕ, ◌+◌, List, [], ◌∷◌, ◌++◌, Bool, true, false, cond, not, ◌&&◌, ◌||◌, Option, Some, None, is_some, nat_le, nat_lt, filter, map}
+use Rattle.std.specs.List.{AllByRecursion}
+use Rattle.std.specs.List.Sorted.{IsStrictlySortedBy}
+use Rattle.std.specs.Map.{keys_of}
+use Rattle.std.specs.Ordering.{nat_cmp}
+use Rattle.std.specs.declared.ops.Bound.{Bound}
+use Rattle.std.specs.declared.ops.Bound.TheVariants.{Included, Excluded}
+use Rattle.adr_model.specs.Store.{Held}
+use Rattle.adr_shelves.specs.declared.place.Place.{Place}
+use Rattle.adr_shelves.specs.Place.{place_in, place_order, seat_at}
+
+-- the slots of a shelf, each at its place
+abbrev pub shelf_entries : Place → List (ℕ × Option Held) → List (Place × Option Held)
+shelf_entries seat [] = []
+shelf_entries seat (s ∷ ss) = (place_in seat s.0, s.1) ∷ shelf_entries seat ss
+
+-- the slots of all shelves, in order
+abbrev pub entries_of : List (Place × List (ℕ × Option Held)) → List (Place × Option Held)
+entries_of [] = []
+entries_of (u ∷ us) = shelf_entries u.0 u.1 ++ entries_of us
+
+-- a shelf stands at the seat of its unit, its slots rise, and that of a link has the link's attribute alone
+pub record IsShelf (seat : Place) (slots : List (ℕ × Option Held)) : Type 0 where
+  pub seated : seat_at seat ≡ seat
+  pub rising : IsStrictlySortedBy nat_cmp (keys_of slots)
+  pub own : seat.is_link ≡ true → AllByRecursion (λ a. a ≡ seat.attr) (keys_of slots)
+
+abbrev pub AreAllShelves : List (Place × List (ℕ × Option Held)) → Type 0
+AreAllShelves [] = Unit {0}
+AreAllShelves (u ∷ us) = IsShelf u.0 u.1 × AreAllShelves us
+
+-- shelves in order of their seats
+pub record AreShelves (us : List (Place × List (ℕ × Option Held))) : Type 0 where
+  pub ordered : IsStrictlySortedBy place_order (keys_of us)
+  pub each : AreAllShelves us
+
+-- from a place on, or only behind it
+abbrev pub start_at : Bool → Place → Bound Place
+start_at true p = Included p
+start_at false p = Excluded p
+
+-- whether an attribute is behind another, or may be the same
+abbrev pub is_behind : Bool → ℕ → ℕ → Bool
+is_behind true a b = nat_le a b
+is_behind false a b = nat_lt a b
+
+abbrev pub flat : Option (Option Held) → Option Held
+flat None = None
+flat (Some o) = o
+
+abbrev pub one_more_if : Bool → ℕ → ℕ
+one_more_if b n = cond b (1 + n) n
+
+-- how many rows stand at places of a kind
+abbrev pub tally : (Place → Bool) → List (Place × Option Held) → ℕ
+tally test [] = 0
+tally test (e ∷ es) = one_more_if (is_some e.1 && test e.0) (tally test es)
+
+-- the slots whose keys pass are emptied
+abbrev pub emptied : {K : Type 0} → (K → Bool) → List (K × Option Held) → List (K × Option Held)
+emptied test es = map (λ e. (e.0, cond (test e.0) None e.1)) es
+
+-- what is left of slots once the empty ones at places of a kind go
+abbrev pub freed : (Place → Bool) → List (Place × Option Held) → List (Place × Option Held)
+freed test es = filter (λ e. is_some e.1 || not (test e.0)) es

@@ -1,0 +1,219 @@
+//! Shelves: the slots of a unit stand side by side, those of an object by their attributes, and a link has one.
+
+ghost use Rattle.std.specs.Prelude.{◌≡◌, ◌≤◌, [], IfOk, OnOk, OnErr, None, Some, is_some, true};
+ghost use Rattle.std.specs.Option.{option_copied, option_map, unwrap_or};
+ghost use Rattle.std.specs.List.Sorted.{IsStrictlySortedBy};
+ghost use Rattle.std.specs.Map.{keys_of, lookup, remove_entry, set_value};
+ghost use Rattle.std.specs.BTreeMap.{insert_entry, is_at};
+ghost use Rattle.std.specs.BTreeMap.Range.{entries_between};
+ghost use Rattle.std.specs.declared.ops.Bound.TheVariants.{Unbounded};
+ghost use Rattle.adr_shelves.specs.Place.{is_of_class, is_of_link, is_proper, place_order, seat_at, is_in_run, values_start};
+ghost use Rattle.adr_shelves.specs.Shelves.{flat, freed, tally, emptied};
+
+use crate::NoMemory;
+use crate::place::{Place, seat_at};
+use crate::run::Run;
+use crate::shelf::Shelf;
+use adr_update::Held;
+use adr_values::Oid;
+use std::alloc::Global;
+use std::collections::BTreeMap;
+use std::marker::Model;
+use std::ops::Bound;
+
+/// For how many slots a new shelf has room: the class, the name and one more.
+const FIRST_ROOM: usize = 3;
+
+/// The first attribute whose rows go when the object dies.
+const FIRST_VALUE: u16 = 4;
+
+/// The slots of all units, each at its place. Those of a unit stand in one shelf.
+#[derive(Drop)]
+pub struct Shelves {
+    alloc: Global,
+    map: BTreeMap<Place, Shelf>,
+}
+
+impl Model for Shelves {
+    ghost use Rattle.std.specs.Prelude.{List, Option};
+    ghost use Rattle.adr_model.specs.Store.{Held as Row};
+    ghost use Rattle.adr_shelves.specs.declared.place.Place.{Place as Seat};
+    ghost use Rattle.adr_shelves.specs.Shelves.{AreShelves, entries_of};
+
+    ghost Value = { List (Seat × Option Row) };
+
+    ghost view = { λ s. entries_of s.map.entries };
+
+    ghost invariant = { λ s. AreShelves s.map.entries };
+}
+
+impl Shelves {
+    pub fn new(alloc: Global) -> Shelves
+        ensures { result ≡ [] }
+    {
+        Shelves {
+            alloc,
+            map: BTreeMap::new(alloc),
+        }
+    }
+
+    /// Places rise.
+    pub fn are_in_order(&self)
+        ensures { IsStrictlySortedBy place_order (keys_of self.now) }
+    {
+        let _shelves = self.map.len();
+    }
+
+    /// How many units have slots, and no fewer than there are class rows, or links.
+    pub fn units(&self) -> usize
+        ensures classes { tally is_of_class self.now ≤ result }
+        ensures links { tally is_of_link self.now ≤ result }
+    {
+        self.map.len()
+    }
+
+    /// What is in the slot of a place, if there is one.
+    pub fn slot(&self, place: &Place) -> Option<&Option<Held>>
+        ensures { option_copied result ≡ lookup (is_at (place_order place.now)) self.now }
+    {
+        let shelves = &self.map;
+        if !place.is_proper() {
+            return None;
+        }
+        match shelves.get(&seat_at(place)) {
+            Some(shelf) => shelf.slot(place.attr),
+            None => None,
+        }
+    }
+
+    /// Makes a slot where there is none, and tells the local update sequence number of the row in it.
+    pub fn make(&mut self, place: Place) -> Result<Option<u64>, NoMemory>
+        requires { is_proper place ≡ true }
+        ensures local { IfOk result (λ local. local ≡ option_map (λ h. h.local) (flat (lookup (is_at (place_order place)) self.old))) }
+        ensures entries { OnOk result (self.new
+            ≡ insert_entry place_order self.old place (unwrap_or (lookup (is_at (place_order place)) self.old) None)) }
+        ensures err { OnErr result (self.new ≡ self.old) }
+    {
+        let seat = seat_at(&place);
+        let shelf = self.map.entry(seat)?.or_insert(Shelf::new(self.alloc));
+        shelf.make(place.attr, room_of(&place))
+    }
+
+    /// Puts a row into a slot, which is made if there is none, and tells whether a row was there.
+    pub fn put(&mut self, place: Place, row: Held) -> Result<bool, NoMemory>
+        requires { is_proper place ≡ true }
+        ensures was { IfOk result (λ was. was ≡ is_some (flat (lookup (is_at (place_order place)) self.old))) }
+        ensures entries { OnOk result (self.new ≡ insert_entry place_order self.old place (Some row)) }
+        ensures room { OnErr result (lookup (is_at (place_order place)) self.old ≡ None) }
+        ensures err { OnErr result (self.new ≡ self.old) }
+    {
+        let seat = seat_at(&place);
+        let shelf = self.map.entry(seat)?.or_insert(Shelf::new(self.alloc));
+        shelf.put(place.attr, row, room_of(&place))
+    }
+
+    /// Empties the slot of a place, if there is one, and tells whether a row was there.
+    pub fn clear(&mut self, place: &Place) -> bool
+        ensures was { result ≡ is_some (flat (lookup (is_at (place_order place.now)) self.old)) }
+        ensures entries { self.new ≡ set_value (is_at (place_order place.now)) self.old None }
+    {
+        if !place.is_proper() {
+            // The check knows what is true of the shelves once they are read.
+            let _ = &self.map;
+            return false;
+        }
+        match self.map.get_mut(&seat_at(place)) {
+            Some(shelf) => shelf.clear(place.attr),
+            None => false,
+        }
+    }
+
+    /// Empties the slots of an object's rows that aren't reserved, by one search.
+    pub fn clear_values(&mut self, object: &Oid)
+        ensures { self.new ≡ emptied (is_in_run (values_start object.now)) self.old }
+    {
+        if let Some(shelf) = self.map.get_mut(&Place::before_rows(object)) {
+            shelf.clear_from(FIRST_VALUE);
+        }
+    }
+
+    /// Takes the slot of a place out, if it is empty.
+    pub fn free(&mut self, place: &Place)
+        ensures freed { lookup (is_at (place_order place.now)) self.old ≡ Some None
+            → self.new ≡ remove_entry (is_at (place_order place.now)) self.old }
+        ensures same { (lookup (is_at (place_order place.now)) self.old ≡ Some None → ⊥) → self.new ≡ self.old }
+    {
+        if !place.is_proper() {
+            let _ = &self.map;
+            return;
+        }
+        let seat = seat_at(place);
+        if self.free_in(&seat, place) {
+            self.let_go(&seat);
+        }
+    }
+
+    /// Takes the slot of a place out of the shelf at its seat, if it is empty, and tells whether the shelf has no slots then.
+    fn free_in(&mut self, seat: &Place, place: &Place) -> bool
+        requires { (is_proper place.now ≡ true) × (seat.now ≡ seat_at place.now) }
+        ensures freed { lookup (is_at (place_order place.now)) self.old ≡ Some None
+            → self.new ≡ remove_entry (is_at (place_order place.now)) self.old }
+        ensures same { (lookup (is_at (place_order place.now)) self.old ≡ Some None → ⊥) → self.new ≡ self.old }
+    {
+        match self.map.get_mut(seat) {
+            Some(shelf) => {
+                shelf.free(place.attr);
+                shelf.is_empty()
+            }
+            None => false,
+        }
+    }
+
+    /// Takes the empty slots of a unit out.
+    pub fn free_unit(&mut self, seat: &Place)
+        ensures { self.new ≡ freed (λ q. is_at (place_order seat.now) (seat_at q)) self.old }
+    {
+        let is_empty = match self.map.get_mut(seat) {
+            Some(shelf) => {
+                shelf.free_all();
+                shelf.is_empty()
+            }
+            None => false,
+        };
+        if is_empty {
+            let _ = self.map.remove(seat);
+        }
+    }
+
+    /// Lets go of the shelf at a seat, if it is empty.
+    fn let_go(&mut self, seat: &Place)
+        ensures { self.new ≡ self.old }
+    {
+        let is_empty = match self.map.get(seat) {
+            Some(shelf) => shelf.is_empty(),
+            None => false,
+        };
+        if is_empty {
+            let _ = self.map.remove(seat);
+        }
+    }
+
+    /// The slots from a bound on.
+    pub fn run_from(&self, start: Bound<Place>) -> Run<'_>
+        ensures { result ≡ entries_between place_order start Unbounded self.now }
+    {
+        Run::new(&self.map, start)
+    }
+
+    /// All slots.
+    pub fn run(&self) -> Run<'_>
+        ensures { result ≡ self.now }
+    {
+        Run::all(&self.map)
+    }
+}
+
+/// For how many slots a new shelf of a place has room.
+fn room_of(place: &Place) -> usize {
+    if place.is_link { 1 } else { FIRST_ROOM }
+}
