@@ -137,13 +137,12 @@ impl Shelf {
         }
     }
 
-    /// Makes room for so many slots where there are none.
+    /// Makes room for one more slot, or for so many where there are none. A shelf has few slots, so it grows by one.
     fn make_room(&mut self, room: usize) -> Result<(), NoMemory>
         ensures { self.new ≡ self.old }
     {
-        if self.slots.is_empty() {
-            self.slots.reserve_exact(room)?;
-        }
+        let more = if self.slots.is_empty() { room } else { 1 };
+        self.slots.reserve_exact(more)?;
         Ok(())
     }
 

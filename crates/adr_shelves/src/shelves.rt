@@ -7,8 +7,8 @@ ghost use Rattle.std.specs.Map.{keys_of, lookup, remove_entry, set_value};
 ghost use Rattle.std.specs.BTreeMap.{insert_entry, is_at};
 ghost use Rattle.std.specs.BTreeMap.Range.{entries_between};
 ghost use Rattle.std.specs.declared.ops.Bound.TheVariants.{Unbounded};
-ghost use Rattle.adr_shelves.specs.Place.{is_of_class, is_of_link, is_proper, place_order, seat_at, is_in_run, values_start};
-ghost use Rattle.adr_shelves.specs.Shelves.{flat, freed, tally, emptied};
+ghost use Rattle.adr_shelves.specs.Place.{is_in_run, is_of_class, is_of_link, is_proper, place_order, seat_at, values_start};
+ghost use Rattle.adr_shelves.specs.Shelves.{emptied, flat, freed, tally};
 
 use crate::NoMemory;
 use crate::place::{Place, seat_at};
