@@ -1,4 +1,5 @@
 mod Rising
+mod Objects
 mod Looked
 mod Holding
 mod Tally

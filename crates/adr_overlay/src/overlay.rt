@@ -1,22 +1,25 @@
 //! The rows of a controller with others over them, none of which is copied.
 
-ghost use Rattle.std.specs.Prelude.{◌≡◌, ◌+◌, ◌++◌, ◌&&◌, ◌||◌, Bool, IfOk, IfSome, IsTrue, OnErr, OnOk, None, Some, false, filter, fold, is_none, length, map, not, if◌then◌else◌};
+ghost use Rattle.std.specs.Prelude.{◌≡◌, ◌+◌, ◌++◌, ◌&&◌, ◌||◌, Bool, IfOk, IfSome, IsTrue, OnErr, OnOk, None, Some, false, filter, fold, true, is_none, length, map, not, if◌then◌else◌};
 ghost use Rattle.std.specs.List.{list_all};
 ghost use Rattle.std.specs.Option.{option_copied, option_map_or};
 ghost use Rattle.adr_model.specs.Live.{objects_of};
 ghost use Rattle.adr_model.specs.Store.{Held as Row, holds_dead, holds_object, is_row_of, row_held, updates_of};
 ghost use Rattle.adr_model.specs.Change.{killed_by, put};
+ghost use Rattle.adr_model.specs.Take.{has_row};
+ghost use Rattle.adr_model.specs.Update.{class_attr};
 ghost use Rattle.adr_model.specs.Write.{is_link_row, links_in};
 ghost use Rattle.adr_update.specs.Key.{key_of};
 ghost use Rattle.adr_update.specs.Referents.{referents};
 ghost use Rattle.adr_update.specs.Sought.{is_link_from};
-ghost use Rattle.adr_table.specs.Table.{IsKept, rows_in};
-ghost use Rattle.adr_overlay.specs.HeldAt.{held_at};
+ghost use Rattle.adr_shelves.specs.Shelves.{held_at};
+ghost use Rattle.adr_table.specs.Table.{IsKept, is_life_of, rows_in};
 ghost use Rattle.adr_overlay.specs.Overlay.{is_birth_row, is_left, is_stripped, links_found, links_lost, one};
 
 use crate::NoMemory;
+use crate::keys::has_row;
 use adr_table::Table;
-use adr_update::{DELETED, Held, Key, Update};
+use adr_update::{CLASS, DELETED, Held, Key, Update};
 use adr_values::Oid;
 use std::alloc::{AllocError, Global};
 use std::marker::Model;
@@ -129,6 +132,35 @@ impl<'a> Overlay<'a> {
         alloc: Global,
         local: u64,
         rows: &[Update],
+        unheld: Option<Oid>,
+    ) -> Result<(), NoMemory>
+        requires { IfSome unheld (λ o. holds_object self.old o ≡ false) }
+        ensures { OnOk result (self.new ≡ fold put self.old (map (held_at local) rows.now)) }
+    {
+        match unheld {
+            Some(object) if are_life_of(rows, &object) => self.put_object(&object, local, rows),
+            _ => self.put_each(alloc, local, rows, unheld),
+        }
+    }
+
+    /// Puts rows of an object of which nothing is held, none of them a death, at once.
+    fn put_object(&mut self, object: &Oid, local: u64, rows: &[Update]) -> Result<(), NoMemory>
+        requires own { list_all (is_life_of object.now) rows.now ≡ true }
+        requires unheld { holds_object self.old object.now ≡ false }
+        ensures { OnOk result (self.new ≡ fold put self.old (map (held_at local) rows.now)) }
+    {
+        let objects = self.objects_with_new(rows)?;
+        self.over.put_object(object, local, rows)?;
+        self.objects = objects;
+        Ok(())
+    }
+
+    /// Puts rows, each by itself.
+    fn put_each(
+        &mut self,
+        alloc: Global,
+        local: u64,
+        rows: &[Update],
         mut unheld: Option<Oid>,
     ) -> Result<(), NoMemory>
         requires { IfSome unheld (λ o. holds_object self.old o ≡ false) }
@@ -178,6 +210,18 @@ impl<'a> Overlay<'a> {
         }
     }
 
+    /// How many objects there are with rows of one of which nothing is held.
+    fn objects_with_new(&self, rows: &[Update]) -> Result<usize, NoMemory>
+        ensures { IfOk result (λ count. count
+            ≡ length (objects_of (updates_of self.now)) + one (has_row class_attr rows.now)) }
+    {
+        if has_row(CLASS, rows) {
+            sum(self.objects, 1)
+        } else {
+            Ok(self.objects)
+        }
+    }
+
     /// How many link rows there are with a row of this key.
     fn links_with(&self, key: &Key) -> Result<usize, NoMemory>
         ensures { IfOk result (λ count. count
@@ -215,7 +259,20 @@ fn put_over(alloc: Global, over: &mut Table, local: u64, row: &Update) -> Result
     ensures ok { OnOk result (rows_in over.new ≡ put (rows_in over.old) (held_at local row.now)) }
     ensures err { OnErr result (rows_in over.new ≡ rows_in over.old) }
 {
-    over.put_now(alloc, Held::new(row.copy(alloc)?, local))
+    over.put_now(Held::new(row.copy(alloc)?, local))
+}
+
+/// Whether all rows are of an object, and none is a death.
+fn are_life_of(rows: &[Update], object: &Oid) -> bool
+    ensures { result ≡ list_all (is_life_of object.now) rows.now }
+{
+    for row in rows {
+        let key = row.key();
+        if !key.is_row_of(object) || key.killed().is_some() {
+            return false;
+        }
+    }
+    true
 }
 
 /// Whether a row is one of an object, if there is one.

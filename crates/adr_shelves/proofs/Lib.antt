@@ -4,6 +4,8 @@ pub mod ShelfPlaces
 pub mod Shelved
 pub mod ShelvedEmptied
 pub mod ShelvedFrees
+pub mod ShelvedObjects
+pub mod ShelvedParts
 pub mod ShelvedRuns
 pub mod ShelvedUnits
 pub mod ShelvedWrites

@@ -13,19 +13,16 @@ use Rattle.std.proofs.lemmas.Map.{keys-set_value}
 use Rattle.adr_model.specs.Store.{Held}
 use Rattle.adr_update.proofs.Slots.{later_none as no_later}
 use Rattle.adr_shelves.specs.declared.place.Place.{Place}
-use Rattle.adr_shelves.specs.Place.{place_in, place_order, seat_at}
+use Rattle.adr_shelves.specs.Place.{is_of_unit, place_in, place_order}
 use Rattle.adr_shelves.specs.Shelves.{AreAllShelves, AreShelves, IsShelf, entries_of, shelf_entries, freed}
 use Rattle.adr_shelves.proofs.Places.{places_total}
 use Rattle.adr_shelves.proofs.Entries.{Entries}
-use Rattle.adr_shelves.proofs.Shelved.{IsOwn, Kept, Shelved, own_first, seat_in, shelf_rest, shelves_rest}
+use Rattle.adr_shelves.proofs.Shelved.{IsOwn, Kept, Shelved, own_first, shelf_rest, shelves_rest}
+use Rattle.adr_shelves.proofs.ShelvedParts.{of_shelf}
 
 -- the slots of a shelf that have rows
 abbrev pub full_slots : Kept → Kept
 full_slots slots = filter (λ s. is_some s.1) slots
-
--- whether a place is of the unit at a seat
-abbrev pub is_of_unit : Place → Place → Bool
-is_of_unit seat q = is_at (place_order seat) (seat_at q)
 
 freed_here : (test : Place → Bool) (s : Place) (slots : Kept) → IsShelf s slots → ((a : ℕ) → IsOwn s a → test (place_in s a) ≡ true)
     → freed test (shelf_entries s slots) ≡ shelf_entries s (full_slots slots)
@@ -53,10 +50,6 @@ kept_there test s (e ∷ slots) shelf fails =
 
 freed_both : (test : Place → Bool) (xs ys : Entries) → freed test (xs ++ ys) ≡ freed test xs ++ freed test ys
 freed_both test xs ys = filter-append (λ (e : Place × Option Held). is_some e.1 || not (test e.0)) xs ys
-
--- all places of a shelf are of its unit, or none is
-of_shelf : (seat s : Place) (slots : Kept) → IsShelf s slots → (b : Bool) → is_at (place_order seat) s ≡ b → (a : ℕ) → IsOwn s a → is_of_unit seat (place_in s a) ≡ b
-of_shelf seat s slots shelf b is a own = ap (is_at (place_order seat)) (seat_in s shelf.seated a own) ∙ is
 
 none_of_unit : (us : Shelved) → AreAllShelves us → (seat : Place) → lookup (is_at (place_order seat)) us ≡ None → freed (is_of_unit seat) (entries_of us) ≡ entries_of us
 none_of_unit [] each seat none = refl
@@ -133,7 +126,7 @@ shelves_freed us are seat slots there = record {
 }
 
 -- what is written at a seat that has a shelf is found there
-found_again : (us : Shelved) (seat : Place) (slots kept : Kept) → lookup (is_at (place_order seat)) us ≡ Some slots → lookup (is_at (place_order seat)) (set_value (is_at (place_order seat)) us kept) ≡ Some kept
+pub found_again : (us : Shelved) (seat : Place) (slots kept : Kept) → lookup (is_at (place_order seat)) us ≡ Some slots → lookup (is_at (place_order seat)) (set_value (is_at (place_order seat)) us kept) ≡ Some kept
 found_again [] seat slots kept there = cc
 found_again (u ∷ us) seat slots kept there = by (is_at (place_order seat) u.0) refl there (found_again us seat slots kept)
   where

@@ -40,7 +40,7 @@ module _ {K X : Type 0} (order : K → K → Ordering) (k : K) (v : X) where
   below_all total l [] less all = tt
   below_all total l (r ∷ rs) less all = (total.trans k l r less all.0, below_all total l rs less all.1)
 
-  sorted_put : IsTotalOrder order → (es : List (K × X)) → IsStrictlySortedBy order (keys_of es) → IsStrictlySortedBy order (keys_of (insert_entry order es k v))
+  pub sorted_put : IsTotalOrder order → (es : List (K × X)) → IsStrictlySortedBy order (keys_of es) → IsStrictlySortedBy order (keys_of (insert_entry order es k v))
   unfolding IsStrictlySortedBy
   sorted_put total [] sorted = (tt, tt)
   sorted_put total (e ∷ es) sorted = by (order k e.0) refl (sorted_put total es sorted.1)
@@ -124,7 +124,7 @@ put_here p proper s at seated (x ∷ xs) own v =
 abbrev pub kept_at : Shelved → Place → Kept
 kept_at us s = unwrap_or (lookup (is_at (place_order s)) us) []
 
-bare_shelf : (s : Place) → seat_at s ≡ s → IsShelf s []
+pub bare_shelf : (s : Place) → seat_at s ≡ s → IsShelf s []
 unfolding IsStrictlySortedBy
 bare_shelf s seated = record { seated = seated; rising = tt; own = λ link. tt }
 
@@ -136,7 +136,7 @@ shelf_at (u ∷ us) each s seated = by (is_at (place_order s) u.0) refl (shelf_a
     by true at later = subst (λ q. IsShelf q u.1) (sym (exact_places s u.0 (equal_order (place_order s u.0) at))) each.0
     by false at later = later
 
-shelf_put : (s : Place) (slots : Kept) → IsShelf s slots → (a : ℕ) (v : Option Held) → IsOwn s a → IsShelf s (insert_entry nat_cmp slots a v)
+pub shelf_put : (s : Place) (slots : Kept) → IsShelf s slots → (a : ℕ) (v : Option Held) → IsOwn s a → IsShelf s (insert_entry nat_cmp slots a v)
 shelf_put s slots shelf a v own = record {
   seated = shelf.seated;
   rising = sorted_put nat_cmp a v nat_cmp_total slots shelf.rising;
@@ -154,7 +154,7 @@ each_at (u ∷ us) each s slots shelf = by (place_order s u.0) refl (each_at us 
     by Equal at later = (subst (λ q. IsShelf q slots) (exact_places s u.0 at) shelf, each.1)
     by Greater at later = (each.0, later)
 
-shelves_at : (us : Shelved) → AreShelves us → (s : Place) (slots : Kept) → IsShelf s slots → AreShelves (insert_entry place_order us s slots)
+pub shelves_at : (us : Shelved) → AreShelves us → (s : Place) (slots : Kept) → IsShelf s slots → AreShelves (insert_entry place_order us s slots)
 shelves_at us are s slots shelf = record { ordered = sorted_put place_order s slots places_total us are.ordered; each = each_at us are.each s slots shelf }
 
 -- none is at a seat below the first
@@ -180,7 +180,7 @@ put_first : (p : Place) → is_proper p ≡ true → (s : Place) → place_order
     → (es : Entries) → AllByRecursion (λ e. place_order p e.0 ≡ Less) es → shelf_entries s (insert_entry nat_cmp slots p.attr v) ++ es ≡ insert_entry place_order (shelf_entries s slots ++ es) p v
 put_first p proper s at seated slots own v es below = ap (λ xs. xs ++ es) (put_here p proper s at seated slots own v) ∙ sym (into_first (shelf_entries s slots) es p v below)
 
-put_at : (us : Shelved) → IsStrictlySortedBy place_order (keys_of us) → AreAllShelves us → (p : Place) → is_proper p ≡ true → (v : Option Held)
+pub put_at : (us : Shelved) → IsStrictlySortedBy place_order (keys_of us) → AreAllShelves us → (p : Place) → is_proper p ≡ true → (v : Option Held)
     → entries_of (insert_entry place_order us (seat_at p) (insert_entry nat_cmp (kept_at us (seat_at p)) p.attr v)) ≡ insert_entry place_order (entries_of us) p v
 put_at [] sorted each p proper v = ap (λ q. (q, v) ∷ []) (home p proper)
 put_at (u ∷ us) sorted each p proper v = by (place_order (seat_at p) u.0) refl (put_at us (sorted_tail place_order u.0 (keys_of us) sorted) each.1 p proper v)

@@ -3,6 +3,7 @@ use Rattle.std.specs.Prelude.{◌≡◌, Some, None, Bool, true, false, ◌&&◌
 use Rattle.std.specs.Ordering.{nat_cmp, bool_cmp, is_eq, ordering_then}
 use Rattle.std.specs.Option.{is_none, option_cmp}
 use Rattle.std.specs.declared.cmp.Ordering.{Ordering}
+use Rattle.std.specs.BTreeMap.{is_at}
 use Rattle.adr_values.specs.Order.{identifier_order, birth_order, object_order}
 use Rattle.adr_values.specs.declared.stamp.Oid.{Oid}
 use Rattle.adr_model.specs.Update.{Identifier, Key, RowOf, LinkOf, class_attr, same_identifier}
@@ -54,6 +55,10 @@ is_of_link p = p.is_link
 -- the place of the unit whose row stands at a place
 abbrev pub seat_at : Place → Place
 seat_at p = record { is_link = p.is_link; guid = p.guid; birth = p.birth; attr = cond p.is_link p.attr 0; other = cond p.is_link p.other None }
+
+-- whether the place is of the unit at a seat
+abbrev pub is_of_unit : Place → Place → Bool
+is_of_unit seat p = is_at (place_order seat) (seat_at p)
 
 -- the place of an attribute of the unit at a seat
 abbrev pub place_in : Place → ℕ → Place

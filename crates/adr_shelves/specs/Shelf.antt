@@ -6,9 +6,16 @@ use Rattle.std.specs.Map.{lookup, remove_entry, set_value}
 use Rattle.std.specs.BTreeMap.{insert_entry, is_at}
 use Rattle.std.specs.Ordering.{nat_cmp}
 use Rattle.adr_model.specs.Store.{Held}
+use Rattle.adr_model.specs.Update.{Update}
+use Rattle.adr_shelves.specs.Place.{place_of}
+use Rattle.adr_shelves.specs.Shelves.{held_at}
 
 abbrev pub Slots : Type 0
 Slots = List (ℕ × Option Held)
+
+-- slots with an update in that of its attribute, under a local USN
+abbrev pub with_own : ℕ → Slots → Update → Slots
+with_own local slots u = insert_entry nat_cmp slots (place_of u.key).attr (Some (held_at local u))
 
 -- the slot of the attribute stands at the place, where it is found, written again, emptied and taken out
 pub record IsPlaceOf (slots : Slots) (attr : ℕ) (i : ℕ) : Type 0 where

@@ -6,9 +6,11 @@ use Rattle.std.specs.Map.{keys_of}
 use Rattle.std.specs.Ordering.{nat_cmp}
 use Rattle.std.specs.declared.ops.Bound.{Bound}
 use Rattle.std.specs.declared.ops.Bound.TheVariants.{Included, Excluded}
+use Rattle.std.specs.BTreeMap.{insert_entry}
 use Rattle.adr_model.specs.Store.{Held}
+use Rattle.adr_model.specs.Update.{Update}
 use Rattle.adr_shelves.specs.declared.place.Place.{Place}
-use Rattle.adr_shelves.specs.Place.{place_in, place_order, seat_at}
+use Rattle.adr_shelves.specs.Place.{is_of_unit, place_in, place_of, place_order, seat_at}
 
 -- the slots of a shelf, each at its place
 abbrev pub shelf_entries : Place → List (ℕ × Option Held) → List (Place × Option Held)
@@ -64,3 +66,15 @@ emptied test es = map (λ e. (e.0, cond (test e.0) None e.1)) es
 -- what is left of slots once the empty ones at places of a kind go
 abbrev pub freed : (Place → Bool) → List (Place × Option Held) → List (Place × Option Held)
 freed test es = filter (λ e. is_some e.1 || not (test e.0)) es
+
+-- what is left of slots once those of a unit go
+abbrev pub without_unit : Place → List (Place × Option Held) → List (Place × Option Held)
+without_unit seat es = filter (λ e. not (is_of_unit seat e.0)) es
+
+-- an update as it is held, under a local USN
+abbrev pub held_at : ℕ → Update → Held
+held_at local u = record { update = u; local = local }
+
+-- slots with an update in that of its key
+abbrev pub with_update : ℕ → List (Place × Option Held) → Update → List (Place × Option Held)
+with_update local es u = insert_entry place_order es (place_of u.key) (Some (held_at local u))

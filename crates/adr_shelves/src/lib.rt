@@ -5,7 +5,8 @@
 //! ordered map, in the order of their units. What a contract sees is the list of all slots, in the order of their places,
 //! which is that of keys. A slot without a row, and a shelf without slots, cost memory alone.
 //!
-//! It stands on `adr_update` and on the definitions in `adr_model`. It knows nothing of hints, deaths or counts.
+//! It stands on `adr_update` and on the definitions in `adr_model`. It knows nothing of hints or deaths, and of how many rows
+//! there are only that no more can be than shelves.
 #![tactic(auto)]
 
 mod place;
@@ -16,4 +17,5 @@ mod shelves;
 pub use adr_update::NoMemory;
 pub use place::{Place, seat_at};
 pub use run::Run;
+pub use shelf::Slot;
 pub use shelves::Shelves;

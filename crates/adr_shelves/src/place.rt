@@ -149,3 +149,13 @@ pub fn seat_at(place: &Place) -> Place
         other: None,
     }
 }
+
+/// The attribute of a row.
+pub fn attr_of(key: &Key) -> u16
+    ensures { result ≡ (place_of (key_of key.now)).attr }
+{
+    match key {
+        Key::Row { attr, .. } => *attr,
+        Key::Link(link) => link.attr,
+    }
+}

@@ -1,16 +1,17 @@
 //! The slots of one unit.
 
-ghost use Rattle.std.specs.Prelude.{◌≡◌, [], IfErr, IfOk, OnOk, OnErr, IsTrue, None, Some, filter, is_some, nat_le};
+ghost use Rattle.std.specs.Prelude.{◌≡◌, ◌↔◌, [], IfErr, IfOk, OnOk, OnErr, IsTrue, None, Some, filter, fold, is_some, nat_le};
 ghost use Rattle.std.specs.Option.{option_copied, option_map, unwrap_or};
 ghost use Rattle.std.specs.List.Sorted.{IsStrictlySortedBy};
 ghost use Rattle.std.specs.Map.{keys_of, lookup, remove_entry, set_value};
 ghost use Rattle.std.specs.BTreeMap.{insert_entry, is_at};
 ghost use Rattle.std.specs.Ordering.{nat_cmp};
 ghost use Rattle.adr_shelves.specs.Shelves.{emptied, flat};
-ghost use Rattle.adr_shelves.specs.Shelf.{IsGapFor, IsPlaceOf};
+ghost use Rattle.adr_shelves.specs.Shelf.{IsGapFor, IsPlaceOf, with_own};
 
 use crate::NoMemory;
-use adr_update::Held;
+use crate::place::attr_of;
+use adr_update::{Held, Update};
 use std::alloc::Global;
 use std::marker::Model;
 
@@ -67,6 +68,18 @@ impl Shelf {
         Shelf {
             slots: Vec::new(alloc),
         }
+    }
+
+    /// Slots with copies of rows of one unit, under a local update sequence number.
+    pub fn of_copies(alloc: Global, local: u64, rows: &[Update]) -> Result<Shelf, NoMemory>
+        ensures { IfOk result (λ shelf. shelf ≡ fold (with_own local) [] rows.now) }
+    {
+        let mut shelf = Shelf::new(alloc);
+        for row in rows {
+            let copy = Held::new(row.copy(alloc)?, local);
+            shelf.put(attr_of(&row.key()), copy, rows.len())?;
+        }
+        Ok(shelf)
     }
 
     pub fn slots(&self) -> &[Slot]
@@ -194,7 +207,7 @@ impl Shelf {
     }
 
     pub fn is_empty(&self) -> bool
-        ensures { IsTrue result → self.now ≡ [] }
+        ensures { IsTrue result ↔ (self.now ≡ []) }
     {
         self.slots.is_empty()
     }

@@ -1,20 +1,22 @@
 //! Shelves: the slots of a unit stand side by side, those of an object by their attributes, and a link has one.
 
-ghost use Rattle.std.specs.Prelude.{◌≡◌, ◌≤◌, [], IfOk, OnOk, OnErr, None, Some, is_some, true};
+ghost use Rattle.std.specs.Prelude.{◌≡◌, ◌≤◌, [], IfOk, OnOk, OnErr, None, Some, filter, fold, is_some, true};
 ghost use Rattle.std.specs.Option.{option_copied, option_map, unwrap_or};
+ghost use Rattle.std.specs.List.{list_all};
 ghost use Rattle.std.specs.List.Sorted.{IsStrictlySortedBy};
 ghost use Rattle.std.specs.Map.{keys_of, lookup, remove_entry, set_value};
 ghost use Rattle.std.specs.BTreeMap.{insert_entry, is_at};
 ghost use Rattle.std.specs.BTreeMap.Range.{entries_between};
 ghost use Rattle.std.specs.declared.ops.Bound.TheVariants.{Unbounded};
-ghost use Rattle.adr_shelves.specs.Place.{is_in_run, is_of_class, is_of_link, is_proper, place_order, seat_at, values_start};
-ghost use Rattle.adr_shelves.specs.Shelves.{emptied, flat, freed, tally};
+ghost use Rattle.adr_model.specs.Store.{is_row_of};
+ghost use Rattle.adr_shelves.specs.Place.{is_in_run, is_of_class, is_of_link, is_of_unit, is_proper, place_order, rows_start, values_start};
+ghost use Rattle.adr_shelves.specs.Shelves.{emptied, flat, freed, shelf_entries, tally, with_update, without_unit};
 
 use crate::NoMemory;
 use crate::place::{Place, seat_at};
 use crate::run::Run;
-use crate::shelf::Shelf;
-use adr_update::Held;
+use crate::shelf::{Shelf, Slot};
+use adr_update::{Held, Update};
 use adr_values::Oid;
 use std::alloc::Global;
 use std::collections::BTreeMap;
@@ -86,6 +88,16 @@ impl Shelves {
         }
     }
 
+    /// The slots of the unit at a seat, by their attributes.
+    pub fn unit(&self, seat: &Place) -> &[Slot]
+        ensures { shelf_entries seat.now result.now ≡ filter (λ e. is_of_unit seat.now e.0) self.now }
+    {
+        match self.map.get(seat) {
+            Some(shelf) => shelf.slots(),
+            None => &[],
+        }
+    }
+
     /// Makes a slot where there is none, and tells the local update sequence number of the row in it.
     pub fn make(&mut self, place: Place) -> Result<Option<u64>, NoMemory>
         requires { is_proper place ≡ true }
@@ -110,6 +122,18 @@ impl Shelves {
         let seat = seat_at(&place);
         let shelf = self.map.entry(seat)?.or_insert(Shelf::new(self.alloc));
         shelf.put(place.attr, row, room_of(&place))
+    }
+
+    /// Puts copies of rows of an object in the place of all its slots, under a local update sequence number, by one search.
+    /// All are put, or none.
+    pub fn put_object(&mut self, object: &Oid, local: u64, rows: &[Update]) -> Result<(), NoMemory>
+        requires { list_all (λ u. is_row_of object.now u.key) rows.now ≡ true }
+        ensures entries { OnOk result (self.new ≡ fold (with_update local) (without_unit (rows_start object.now) self.old) rows.now) }
+        ensures err { OnErr result (self.new ≡ self.old) }
+    {
+        let shelf = Shelf::of_copies(self.alloc, local, rows)?;
+        let _ = self.map.insert(Place::before_rows(object), shelf)?;
+        Ok(())
     }
 
     /// Empties the slot of a place, if there is one, and tells whether a row was there.
@@ -148,49 +172,27 @@ impl Shelves {
             return;
         }
         let seat = seat_at(place);
-        if self.free_in(&seat, place) {
-            self.let_go(&seat);
-        }
-    }
-
-    /// Takes the slot of a place out of the shelf at its seat, if it is empty, and tells whether the shelf has no slots then.
-    fn free_in(&mut self, seat: &Place, place: &Place) -> bool
-        requires { (is_proper place.now ≡ true) × (seat.now ≡ seat_at place.now) }
-        ensures freed { lookup (is_at (place_order place.now)) self.old ≡ Some None
-            → self.new ≡ remove_entry (is_at (place_order place.now)) self.old }
-        ensures same { (lookup (is_at (place_order place.now)) self.old ≡ Some None → ⊥) → self.new ≡ self.old }
-    {
-        match self.map.get_mut(seat) {
+        let is_empty = match self.map.get_mut(&seat) {
             Some(shelf) => {
                 shelf.free(place.attr);
                 shelf.is_empty()
             }
             None => false,
+        };
+        if is_empty {
+            let _ = self.map.remove(&seat);
         }
     }
 
     /// Takes the empty slots of a unit out.
     pub fn free_unit(&mut self, seat: &Place)
-        ensures { self.new ≡ freed (λ q. is_at (place_order seat.now) (seat_at q)) self.old }
+        ensures { self.new ≡ freed (is_of_unit seat.now) self.old }
     {
         let is_empty = match self.map.get_mut(seat) {
             Some(shelf) => {
                 shelf.free_all();
                 shelf.is_empty()
             }
-            None => false,
-        };
-        if is_empty {
-            let _ = self.map.remove(seat);
-        }
-    }
-
-    /// Lets go of the shelf at a seat, if it is empty.
-    fn let_go(&mut self, seat: &Place)
-        ensures { self.new ≡ self.old }
-    {
-        let is_empty = match self.map.get(seat) {
-            Some(shelf) => shelf.is_empty(),
             None => false,
         };
         if is_empty {

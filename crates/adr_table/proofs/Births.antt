@@ -49,7 +49,7 @@ links_counted (e ∷ es) home = by e.1 home.0 (links_counted es home.1)
 abbrev pub births : List Held → List Oid
 births rows = filter_map (λ (u : Update). born u.key) (updates_of rows)
 
-class_place : (k : Key) → is_of_class (place_of k) ≡ is_some (born k)
+pub class_place : (k : Key) → is_of_class (place_of k) ≡ is_some (born k)
 class_place (RowOf o a) = by (a == class_attr)
   where
     by : (b : Bool) → (true && b) ≡ is_some (if b then Some o else None)

@@ -1,5 +1,5 @@
 -- An empty slot that is freed leaves what is seen.
-use Rattle.std.proofs.Common.{◌≡◌, refl, sym, ap, ◌∙◌, subst, arith, ◌+◌, length, [], ◌∷◌, Bool, true, false, cond, ◌&&◌, Option, Some, None}
+use Rattle.std.proofs.Common.{◌≡◌, refl, sym, ap, ◌∙◌, subst, Bool, true, false, cond, ◌&&◌, Option, Some, None}
 use Rattle.std.specs.Prelude.{is_some}
 use Rattle.std.specs.Map.{keys_of, lookup, remove_entry}
 use Rattle.std.specs.BTreeMap.{is_at}
@@ -39,17 +39,6 @@ freed_same es p q sorted empty = ap flat (freed_found es p q sorted) ∙ by (is_
     by : (b : Bool) → is_at (place_order p) q ≡ b → flat (cond b None (lookup (is_at (place_order q)) es)) ≡ flat (lookup (is_at (place_order q)) es)
     by true at = sym (ap flat (subst (λ r. lookup (is_at (place_order r)) es ≡ Some None) (exact_places p q (equal_order (place_order p q) at)) empty))
     by false at = refl
-
--- and one place fewer has a slot
-pub freed_fewer : (es : Entries) (p : Place) → lookup (is_at (place_order p)) es ≡ Some None → 1 + length (keys_of (remove_entry (is_at (place_order p)) es)) ≡ length (keys_of es)
-freed_fewer [] p empty = cc
-freed_fewer (e ∷ es) p empty = by (is_at (place_order p) e.0) empty (freed_fewer es p)
-  where
-    by : (b : Bool) → cond b (Some e.1) (lookup (is_at (place_order p)) es) ≡ Some None
-        → (lookup (is_at (place_order p)) es ≡ Some None → 1 + length (keys_of (remove_entry (is_at (place_order p)) es)) ≡ length (keys_of es))
-        → 1 + length (keys_of (cond b es (e ∷ remove_entry (is_at (place_order p)) es))) ≡ length (e.0 ∷ keys_of es)
-    by true h later = omega arith
-    by false h later = let less = later h in omega (arith, less)
 
 pub freed_tally : (test : Place → Bool) (es : Entries) (p : Place) → lookup (is_at (place_order p)) es ≡ Some None → tally test (remove_entry (is_at (place_order p)) es) ≡ tally test es
 freed_tally test = freed place_order (tally test) (λ p es. refl) (λ e es fs is. ap (one_more_if (is_some e.1 && test e.0)) is)

@@ -9,6 +9,7 @@ pub mod Listed
 pub mod LocalsFound
 pub mod LocalsKept
 pub mod LocalsSeats
+pub mod Objects
 pub mod OneList
 pub mod Queries
 pub mod Reading
@@ -18,3 +19,4 @@ pub mod Seen
 pub mod Spans
 pub mod Stripped
 pub mod UnitFrees
+pub mod Units

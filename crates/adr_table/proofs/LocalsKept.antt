@@ -1,6 +1,6 @@
 -- Hints of local USNs: their order, how they are kept, and the last one of a unit.
 use Rattle.std.proofs.Common.{◌≡◌, ◌⊎◌, inl, inr, ⊎_elim, refl, sym, ap, ◌∙◌, subst, arith, ℕ, ◌<◌, ◌≤◌, List, [], ◌∷◌, Bool, true, false, cond, not, ◌&&◌, ◌||◌, Option, Some, None, filter, fold, max, eqb}
-use Rattle.std.specs.List.{cons_option, list_any}
+use Rattle.std.specs.List.{list_any}
 use Rattle.std.specs.Option.{option_cmp}
 use Rattle.std.specs.BTreeMap.{is_at}
 use Rattle.std.specs.BTreeSet.{BTreeSet, contains}
@@ -84,9 +84,6 @@ zero_below : (n : ℕ) → max 0 n ≡ n
 zero_below n = grind arith
 
 module _ (u : Named) where
-  is_of : Held → Bool
-  is_of h = same_unit (unit_of h.update.key) u
-
   abbrev step : ℕ → Held → ℕ
   step n h = cond (same_unit (unit_of h.update.key) u) (max n h.local) n
 
@@ -229,49 +226,35 @@ needs_both hint p h there =
     ∙ ap (λ b. b && is_at (place_order p) (unit_place (unit_of h.update.key))) (tied_numbers hint.usn h.local)
     ∙ ap (λ q. eqb h.local hint.usn && is_at (place_order p) q) (sym (seat_is h.update.key))
 
--- a hint of a unit is that of no row of another unit
-pub needed_within : (hint : Local) (p : Place) (rows : List Held) → hint.unit ≡ Some p → list_any (needs hint) (rows_of_seat p rows) ≡ list_any (needs hint) rows
+-- a row of the hint's unit has the hint by its number alone, and a row of another unit never
+abbrev pub has_number : ℕ → Held → Bool
+has_number n h = eqb h.local n
+
+pub needed_within : (hint : Local) (p : Place) (rows : List Held) → hint.unit ≡ Some p → list_any (has_number hint.usn) (rows_of_seat p rows) ≡ list_any (needs hint) rows
 needed_within hint p [] there = refl
 needed_within hint p (h ∷ hs) there = by (is_of_seat p h) refl (needed_within hint p hs there)
   where
-    none : (b : Bool) → (b && false) ≡ false
+    own : (a : Bool) → (a && true) ≡ a
+    own true = refl
+    own false = refl
+
+    none : (a : Bool) → (a && false) ≡ false
     none true = refl
     none false = refl
 
-    by : (b : Bool) → is_of_seat p h ≡ b → list_any (needs hint) (rows_of_seat p hs) ≡ list_any (needs hint) hs
-        → list_any (needs hint) (cond b (h ∷ rows_of_seat p hs) (rows_of_seat p hs)) ≡ (needs hint h || list_any (needs hint) hs)
-    by true is rest = ap (λ b. needs hint h || b) rest
-    by false is rest = rest ∙ ap (λ b. b || list_any (needs hint) hs) (sym (needs_both hint p h there ∙ ap (λ b. eqb h.local hint.usn && b) is ∙ none (eqb h.local hint.usn)))
+    told : (b : Bool) → is_of_seat p h ≡ b → needs hint h ≡ (has_number hint.usn h && b)
+    told b is = needs_both hint p h there ∙ ap (λ b. has_number hint.usn h && b) is
 
--- what a walk over the rows of a hint's unit has left of those that have the hint
+    by : (b : Bool) → is_of_seat p h ≡ b → list_any (has_number hint.usn) (rows_of_seat p hs) ≡ list_any (needs hint) hs
+        → list_any (has_number hint.usn) (cond b (h ∷ rows_of_seat p hs) (rows_of_seat p hs)) ≡ (needs hint h || list_any (needs hint) hs)
+    by true is rest =
+        ap (λ b. has_number hint.usn h || b) rest ∙ ap (λ b. b || list_any (needs hint) hs) (sym (told true is ∙ own (has_number hint.usn h)))
+    by false is rest = rest ∙ ap (λ b. b || list_any (needs hint) hs) (sym (told false is ∙ none (has_number hint.usn h)))
+
+-- whether a row that is left of the hint's unit has its number is whether one of all has the hint
 abbrev pub IsAny : Local → List Held → List Held → Type 0
-IsAny hint all rows = list_any (needs hint) rows ≡ list_any (needs hint) all
-
--- a row of the unit has the hint by its number alone
-pub any_here : (hint : Local) (p : Place) (all rows : List Held) (slot : Option Held) (h : Held) → hint.unit ≡ Some p → slot ≡ Some h → is_of_seat p h ≡ true → h.local ≡ hint.usn
-    → IsAny hint all (cons_option slot rows) → true ≡ list_any (needs hint) all
-any_here hint p all rows slot h there some own number any =
-    sym (ap (λ b. b || list_any (needs hint) rows) yes) ∙ subst (λ o. IsAny hint all (cons_option o rows)) some any
-  where
-    yes : needs hint h ≡ true
-    yes =
-        needs_both hint p h there
-        ∙ ap (λ b. eqb h.local hint.usn && b) own
-        ∙ ap (λ n. eqb n hint.usn && true) number
-        ∙ ap (λ b. b && true) (itself hint.usn)
-
-pub any_later : (hint : Local) (p : Place) (all rows : List Held) (slot : Option Held) (h : Held) → hint.unit ≡ Some p → slot ≡ Some h → (h.local ≡ hint.usn → ⊥)
-    → IsAny hint all (cons_option slot rows) → IsAny hint all rows
-any_later hint p all rows slot h there some other any =
-    sym (ap (λ b. b || list_any (needs hint) rows) no) ∙ subst (λ o. IsAny hint all (cons_option o rows)) some any
-  where
-    no : needs hint h ≡ false
-    no = needs_both hint p h there ∙ ap (λ b. b && is_of_seat p h) (unequal h.local hint.usn other)
+IsAny hint all rows = list_any (has_number hint.usn) rows ≡ list_any (needs hint) all
 
 -- the same of the greatest number so far and of what is left
 abbrev pub IsGreatest : List Held → Option ℕ → List Held → Type 0
 IsGreatest all so_far rows = greatest so_far rows ≡ greatest None all
-
-pub greatest_next : (all rows : List Held) (so_far : Option ℕ) (n : ℕ) (slot : Option Held) (h : Held) → slot ≡ Some h → n ≡ above so_far h.local → IsGreatest all so_far (cons_option slot rows)
-    → IsGreatest all (Some n) rows
-greatest_next all rows so_far n slot h some is read = ap (λ m. greatest (Some m) rows) is ∙ subst (λ o. IsGreatest all so_far (cons_option o rows)) some read

@@ -10,30 +10,27 @@ use Rattle.std.specs.declared.cmp.Ordering.TheVariants.{Less, Equal}
 use Rattle.std.proofs.lemmas.Cmp.{tied_itself}
 use Rattle.std.proofs.lemmas.Map.Keys.{sorted_head, sorted_tail}
 use Rattle.adr_values.specs.declared.stamp.Oid.{Oid}
-use Rattle.adr_values.specs.declared.stamp.LinkKey.{LinkKey}
-use Rattle.adr_values.specs.declared.stamp.Unit.TheVariants.{Link}
+use Rattle.adr_values.specs.declared.stamp.Unit.TheVariants.{Object}
 use Rattle.adr_model.proofs.Keys.{equal_order, exact_keys, keys_total}
 use Rattle.adr_model.specs.Formed.{AreRising}
 use Rattle.adr_model.specs.Update.{Identifier, Key, RowOf, LinkOf, Update, key_order, same_key, same_unit, unit_of}
 use Rattle.adr_model.specs.Store.{Held, holds_object, is_row_of, row_held, updates_of}
 use Rattle.adr_model.specs.Write.{holds_guid, is_of_guid}
-use Rattle.adr_update.specs.Sought.{is_link_from, rows_of_unit}
+use Rattle.adr_update.specs.Sought.{is_link_from}
 use Rattle.adr_shelves.specs.declared.place.Place.{Place}
 use Rattle.adr_shelves.specs.Place.{guid_start, links_start, place_of, place_order, rows_start}
 use Rattle.adr_table.specs.Slots.{AreAtHome, rows_in_run, seen}
+use Rattle.adr_table.specs.Locals.{rows_of_seat}
 use Rattle.adr_shelves.proofs.Places.{order_is}
 use Rattle.adr_shelves.proofs.Entries.{Entries, AreSorted}
-use Rattle.adr_table.proofs.Stripped.{in_guid_run, in_links_run, in_rows_run}
+use Rattle.adr_table.proofs.LocalsSeats.{rows_of}
+use Rattle.adr_table.proofs.Stripped.{in_guid_run, in_links_run}
 
 -- ---- tests that agree
 
 filter_alike : (f g : Held → Bool) → ((h : Held) → f h ≡ g h) → (rows : List Held) → filter f rows ≡ filter g rows
 filter_alike f g alike [] = refl
 filter_alike f g alike (h ∷ hs) = ap (λ b. cond b (h ∷ filter f hs) (filter f hs)) (alike h) ∙ ap (λ xs. cond (g h) (h ∷ xs) xs) (filter_alike f g alike hs)
-
-any_alike : {A : Type 0} (f g : A → Bool) → ((x : A) → f x ≡ g x) → (xs : List A) → list_any f xs ≡ list_any g xs
-any_alike f g alike [] = refl
-any_alike f g alike (x ∷ xs) = ap (λ b. b || list_any f xs) (alike x) ∙ ap (λ b. g x || b) (any_alike f g alike xs)
 
 any_mapped : {A B : Type 0} (f : A → B) (test : B → Bool) (xs : List A) → list_any test (map f xs) ≡ list_any (λ x. test (f x)) xs
 any_mapped f test [] = refl
@@ -47,19 +44,27 @@ first_kept f (h ∷ hs) = by (f h) (first_kept f hs)
     by true later = refl
     by false later = later
 
--- ---- runs
+-- ---- units
 
-pub rows_of_object : (s : Place) (o : Oid) → s ≡ rows_start o → (rows : List Held) → rows_in_run s rows ≡ filter (λ h. is_row_of o h.update.key) rows
-rows_of_object s o is rows = ap (λ p. rows_in_run p rows) is ∙ filter_alike _ (λ h. is_row_of o h.update.key) (λ h. in_rows_run o h.update.key) rows
+-- the rows of an object are those of its unit
+pub rows_of_object : (s : Place) (o : Oid) → s ≡ rows_start o → (rows : List Held) → rows_of_seat s rows ≡ filter (λ h. is_row_of o h.update.key) rows
+rows_of_object s o is rows =
+    ap (λ p. rows_of_seat p rows) is ∙ rows_of (Object o) rows ∙ filter_alike (λ h. same_unit (unit_of h.update.key) (Object o)) (λ h. is_row_of o h.update.key) (λ h. alike h.update.key) rows
+  where
+    alike : (k : Key) → same_unit (unit_of k) (Object o) ≡ is_row_of o k
+    alike (RowOf p a) = refl
+    alike (LinkOf l) = refl
+
+pub any_of_object : (s : Place) (o : Oid) → s ≡ rows_start o → (rows : List Held) → is_some (slice_get (rows_of_seat s rows) 0) ≡ holds_object rows o
+any_of_object s o is rows = ap (λ xs. is_some (slice_get xs 0)) (rows_of_object s o is rows) ∙ first_kept (λ h. is_row_of o h.update.key) rows
+
+-- ---- runs
 
 pub rows_of_guid : (s : Place) (g : Identifier) → s ≡ guid_start g → (rows : List Held) → rows_in_run s rows ≡ filter (λ h. is_of_guid g h.update.key) rows
 rows_of_guid s g is rows = ap (λ p. rows_in_run p rows) is ∙ filter_alike _ (λ h. is_of_guid g h.update.key) (λ h. in_guid_run g h.update.key) rows
 
 pub links_of_object : (s : Place) (o : Oid) → s ≡ links_start o → (rows : List Held) → rows_in_run s rows ≡ filter (λ h. is_link_from o h.update.key) rows
 links_of_object s o is rows = ap (λ p. rows_in_run p rows) is ∙ filter_alike _ (λ h. is_link_from o h.update.key) (λ h. in_links_run o h.update.key) rows
-
-pub any_of_object : (s : Place) (o : Oid) → s ≡ rows_start o → (rows : List Held) → is_some (slice_get (rows_in_run s rows) 0) ≡ holds_object rows o
-any_of_object s o is rows = ap (λ xs. is_some (slice_get xs 0)) (rows_of_object s o is rows) ∙ first_kept (λ h. is_row_of o h.update.key) rows
 
 pub any_of_guid : (s : Place) (g : Identifier) → s ≡ guid_start g → (rows : List Held) → is_some (slice_get (rows_in_run s rows) 0) ≡ holds_guid (updates_of rows) g
 any_of_guid s g is rows =
@@ -103,7 +108,7 @@ rise (e ∷ es) sorted home = by e.1 home.0 (rise es (sorted_tail place_order e.
     by (Some h) own later =
         one_more h.update.key (map (λ (x : Held). x.update.key) (seen es)) (all_seen e.0 h.update.key own es home.1 (sorted_head place_order e.0 (keys_of es) sorted)) later
 
--- ---- the row of a link
+-- ---- the row of a key
 
 none_above : (k : Key) (rows : List Held) → AllByRecursion (λ j. key_order k j ≡ Less) (map (λ (h : Held). h.update.key) rows) → filter (λ h. same_key h.update.key k) rows ≡ []
 none_above k [] below = refl
@@ -126,12 +131,3 @@ one_of_key k (h ∷ hs) rising = by (same_key h.update.key k) refl (one_of_key k
         ap (λ xs. h ∷ xs) (none_above k hs
         (subst (λ j. AllByRecursion (λ i. key_order j i ≡ Less) (map (λ (x : Held). x.update.key) hs)) same (sorted_head key_order h.update.key (map (λ (x : Held). x.update.key) hs) rising)))
     by false is later = later
-
-pub unit_of_link : (l : LinkKey) (rows : List Held) → AreRising rows → cons_option (row_held rows (LinkOf l)) [] ≡ rows_of_unit rows (Link l)
-unit_of_link l rows rising =
-    sym (one_of_key (LinkOf l) rows rising)
-    ∙ filter_alike (λ h. same_key h.update.key (LinkOf l)) (λ h. same_unit (unit_of h.update.key) (Link l)) (λ h. alike h.update.key) rows
-  where
-    alike : (k : Key) → same_key k (LinkOf l) ≡ same_unit (unit_of k) (Link l)
-    alike (RowOf p a) = refl
-    alike (LinkOf m) = refl

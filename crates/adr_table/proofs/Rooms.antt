@@ -11,6 +11,7 @@ use Rattle.adr_values.specs.declared.stamp.LinkKey.{LinkKey}
 use Rattle.adr_values.specs.declared.stamp.Oid.{Oid}
 use Rattle.adr_model.proofs.Keys.{equal_order}
 use Rattle.adr_model.specs.Update.{Key, RowOf, LinkOf}
+use Rattle.adr_model.specs.Change.{stripped}
 use Rattle.adr_model.specs.Store.{Held, with_row}
 use Rattle.adr_shelves.specs.declared.place.Place.{Place}
 use Rattle.adr_table.specs.declared.slots.Slots.{Slots}
@@ -21,9 +22,9 @@ use Rattle.adr_shelves.specs.Place.{place_of, place_order}
 use Rattle.adr_table.specs.Slots.{HasSlot, IsTidy, places, row_at, rows_seen}
 use Rattle.adr_table.specs.Back.{AreBacked, IsHinted, behind_order, hint, link_behind}
 use Rattle.adr_table.specs.Deaths.{IsListed}
-use Rattle.adr_table.specs.Locals.{IsLocated}
+use Rattle.adr_table.specs.Locals.{AreLocated, IsLocated}
 use Rattle.adr_table.specs.Table.{HasRoom, HaveRoom, IsKept}
-use Rattle.adr_table.proofs.LocalsKept.{each_same, each_written}
+use Rattle.adr_table.proofs.LocalsKept.{each_same, each_stripped, each_written}
 use Rattle.adr_shelves.proofs.Entries.{Entries}
 use Rattle.adr_shelves.proofs.Places.{same_place}
 use Rattle.adr_table.proofs.Behinds.{exact_behinds}
@@ -117,25 +118,37 @@ room_more t s h slots back dead locals room = record {
 }
 
 -- and so does what keeps them together
-pub kept_more : (t s : Table) → IsKept t → IsTidy s.slots → rows_seen s.slots ≡ rows_seen t.slots → ((q : Place) → row_at s.slots q ≡ row_at t.slots q) → ((k : Key) → IsHinted t.back k → IsHinted s.back k)
-    → ((k : Key) → IsListed t.dead k → IsListed s.dead k) → ((x : Held) → IsLocated t.locals x → IsLocated s.locals x) → IsKept s
-kept_more t s kept tidy seen same back dead locals = record {
+pub kept_more : (t s : Table) → IsKept t → IsTidy s.slots → rows_seen s.slots ≡ rows_seen t.slots → ((q : Place) → row_at s.slots q ≡ row_at t.slots q)
+    → ((k : Key) → IsHinted t.back k → IsHinted s.back k) → ((k : Key) → IsListed t.dead k → IsListed s.dead k) → IsKept s
+kept_more t s kept tidy seen same back dead = record {
   tidy = tidy;
   backed = backed_same t.slots s.slots t.back s.back kept.backed back same;
   listed = each_same t.slots s.slots (λ h. IsListed t.dead h.update.key) (λ h. IsListed s.dead h.update.key) kept.listed (λ h is. dead h.update.key is) seen;
-  located = each_same t.slots s.slots (IsLocated t.locals) (IsLocated s.locals) kept.located locals seen;
 }
+
+-- and the hint of each number
+pub numbered_more : (old new : Slots) (locals locals' : BTreeSet Local) → AreLocated old locals
+    → rows_seen new ≡ rows_seen old → ((x : Held) → IsLocated locals x → IsLocated locals' x) → AreLocated new locals'
+numbered_more old new locals locals' numbered seen more = each_same old new (IsLocated locals) (IsLocated locals') numbered more seen
 
 -- and where a row is put that has its hints
 pub kept_put : (t s : Table) (row : Held) → IsKept t → IsTidy s.slots → rows_seen s.slots ≡ with_row (rows_seen t.slots) row
-    → ((q : Place) → row_at s.slots q ≡ cond (is_at (place_order (place_of row.update.key)) q) (Some row) (row_at t.slots q)) → ((k : Key) → IsHinted t.back k → IsHinted s.back k)
-    → ((k : Key) → IsListed t.dead k → IsListed s.dead k) → ((x : Held) → IsLocated t.locals x → IsLocated s.locals x)
-    → IsHinted s.back row.update.key → IsListed s.dead row.update.key → IsLocated s.locals row → IsKept s
-kept_put t s row kept tidy seen rows back dead locals hinted listed located = record {
+    → ((q : Place) → row_at s.slots q ≡ cond (is_at (place_order (place_of row.update.key)) q) (Some row) (row_at t.slots q))
+    → ((k : Key) → IsHinted t.back k → IsHinted s.back k) → ((k : Key) → IsListed t.dead k → IsListed s.dead k) → IsHinted s.back row.update.key → IsListed s.dead row.update.key → IsKept s
+kept_put t s row kept tidy seen rows back dead hinted listed = record {
   tidy = tidy;
   backed = backed_more t.slots s.slots s.back row (backed_same t.slots t.slots t.back s.back kept.backed back (λ q. refl)) hinted rows;
   listed = each_written t.slots s.slots (λ h. IsListed s.dead h.update.key) row (λ h m. dead h.update.key (kept.listed h m)) listed seen;
-  located = each_written t.slots s.slots (IsLocated s.locals) row (λ h m. locals h (kept.located h m)) located seen;
+}
+
+-- and where a death takes what goes with it
+pub kept_stripped : (old new : Slots) (back : BTreeSet Behind) (dead : BTreeSet Oid) (locals : BTreeSet Local) (object : Option Oid)
+    → IsKept (record { slots = old; back = back; dead = dead; locals = locals }) → IsTidy new → rows_seen new ≡ stripped object (rows_seen old)
+    → ((q : Place) → row_at old q ≡ None → row_at new q ≡ None) → IsKept (record { slots = new; back = back; dead = dead; locals = locals })
+kept_stripped old new back dead locals object kept tidy seen fewer = record {
+  tidy = tidy;
+  backed = backed_fewer old new back kept.backed fewer;
+  listed = each_stripped old new (λ h. IsListed dead h.update.key) object kept.listed seen;
 }
 
 -- ---- room for several rows

@@ -153,7 +153,7 @@ second_part Less p e h = cc
 second_part Equal p e h = h
 second_part Greater p e h = cc
 
-pub between : {K : Type 0} (R : K → K → Ordering) → IsTotalOrder R → (a b : K) → is_gt (R a b) ≡ false → is_gt (R b a) ≡ false → R a b ≡ Equal
+between : {K : Type 0} (R : K → K → Ordering) → IsTotalOrder R → (a b : K) → is_gt (R a b) ≡ false → is_gt (R b a) ≡ false → R a b ≡ Equal
 between R total a b h g = by (R a b) (R b a) (total.antisymm b a) h g
   where
     by : (o p : Ordering) → p ≡ ordering_reverse o → is_gt o ≡ false → is_gt p ≡ false → o ≡ Equal
@@ -179,11 +179,11 @@ at_most a b o h g = grind (arith, nat_tests)
 from_zero : (a b : ℕ) → nat_lt 0 a ≡ false → nat_le a b ≡ true
 from_zero a b h = grind (arith, nat_tests)
 
-pub none_first : (o : Option Oid) → is_gt (option_cmp object_order None o) ≡ false
+none_first : (o : Option Oid) → is_gt (option_cmp object_order None o) ≡ false
 none_first None = refl
 none_first (Some x) = refl
 
-pub tied_then : (o p : Ordering) → o ≡ Equal → is_gt p ≡ false → is_gt (ordering_then o p) ≡ false
+tied_then : (o p : Ordering) → o ≡ Equal → is_gt p ≡ false → is_gt (ordering_then o p) ≡ false
 tied_then Less p e h = cc
 tied_then Equal p e h = h
 tied_then Greater p e h = cc

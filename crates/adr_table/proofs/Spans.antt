@@ -73,7 +73,7 @@ module _ (at : Place → Bool) where
   Ends (e ∷ es) = (at e.0 ≡ false → filter of (seen (e ∷ es)) ≡ []) × Ends es
 
   -- a slot at another place gives no row of them
-  outside : (e : Place × Option Held) (rows : List Held) → IfSome e.1 (λ h. place_of h.update.key ≡ e.0) → at e.0 ≡ false → filter of (cons_option e.1 rows) ≡ filter of rows
+  pub outside : (e : Place × Option Held) (rows : List Held) → IfSome e.1 (λ h. place_of h.update.key ≡ e.0) → at e.0 ≡ false → filter of (cons_option e.1 rows) ≡ filter of rows
   outside e rows home out = by e.1 home
     where
       by : (o : Option Held) → IfSome o (λ h. place_of h.update.key ≡ e.0) → filter of (cons_option o rows) ≡ filter of rows
@@ -81,7 +81,7 @@ module _ (at : Place → Bool) where
       by (Some h) own = ap (λ b. cond b (h ∷ filter of rows) (filter of rows)) (ap at own ∙ out)
 
   -- a slot at one of them gives its row
-  inside : (e : Place × Option Held) (rows : List Held) → IfSome e.1 (λ h. place_of h.update.key ≡ e.0) → at e.0 ≡ true → filter of (cons_option e.1 rows) ≡ cons_option e.1 (filter of rows)
+  pub inside : (e : Place × Option Held) (rows : List Held) → IfSome e.1 (λ h. place_of h.update.key ≡ e.0) → at e.0 ≡ true → filter of (cons_option e.1 rows) ≡ cons_option e.1 (filter of rows)
   inside e rows home own = by e.1 home
     where
       by : (o : Option Held) → IfSome o (λ h. place_of h.update.key ≡ e.0) → filter of (cons_option o rows) ≡ cons_option o (filter of rows)
@@ -152,10 +152,6 @@ module _ (at : Place → Bool) (P : List Held → Type 0) where
 
     pub turned : at e.0 ≡ true → (Q : List Held → Type 0) → (P (cons_option e.1 rest) → Q rest) → Walk at Q es
     turned own Q next = record { rows = next (found own); home = here.home.1; ends = here.ends.1 }
-
-    -- the row of a slot stands at one of the places
-    pub own_row : at e.0 ≡ true → (h : Held) → e.1 ≡ Some h → of at h ≡ true
-    own_row own h some = let home : place_of h.update.key ≡ e.0 = subst (λ o. IfSome o (λ x. place_of x.update.key ≡ e.0)) some here.home.0 in ap at home ∙ own
 
     -- an empty slot is passed
     pub passed : at e.0 ≡ true → e.1 ≡ None → Walk at P es

@@ -14,13 +14,12 @@ use Rattle.adr_values.specs.declared.stamp.Oid.{Oid}
 use Rattle.adr_model.proofs.Keys.{equal_order}
 use Rattle.adr_model.specs.Store.{Held}
 use Rattle.adr_shelves.specs.declared.place.Place.{Place}
-use Rattle.adr_shelves.specs.Place.{is_in_run, place_order, rows_start}
+use Rattle.adr_shelves.specs.Place.{is_in_run, is_of_unit, place_order, rows_start}
 use Rattle.adr_shelves.specs.Shelves.{flat, freed, one_more_if, tally}
 use Rattle.adr_table.specs.Slots.{AreAtHome, seen}
 use Rattle.adr_shelves.proofs.Places.{exact_places}
 use Rattle.adr_shelves.proofs.Entries.{AreSorted, Entries}
 use Rattle.adr_table.proofs.Seen.{later_none}
-use Rattle.adr_shelves.proofs.ShelvedUnits.{is_of_unit}
 
 module _ (test : Place → Bool) where
   pub freed_seen : (es : Entries) → seen (freed test es) ≡ seen es

@@ -1,6 +1,10 @@
 -- Tables: the rows that are seen, what keeps the slots and the hints together, and room for rows.
-use Rattle.std.specs.Prelude.{ℕ, ◌<◌, List, length, slice_index_or}
-use Rattle.adr_model.specs.Store.{Held}
+use Rattle.std.specs.Prelude.{ℕ, ◌<◌, List, length, slice_index_or, Bool, ◌&&◌}
+use Rattle.std.specs.Option.{is_none}
+use Rattle.adr_values.specs.declared.stamp.Oid.{Oid}
+use Rattle.adr_model.specs.Change.{killed_by}
+use Rattle.adr_model.specs.Update.{Update}
+use Rattle.adr_model.specs.Store.{Held, is_row_of}
 use Rattle.adr_table.specs.declared.table.Table.{Table}
 use Rattle.adr_shelves.specs.Place.{place_of}
 use Rattle.adr_table.specs.Slots.{HasSlot, IsTidy, rows_seen}
@@ -12,12 +16,15 @@ use Rattle.adr_table.specs.Locals.{AreLocated, IsLocated}
 abbrev pub rows_in : Table → List Held
 rows_in t = rows_seen t.slots
 
--- rows stand at their places and are counted, and each has its hints
+-- rows stand at their places and are counted, and links and deaths have their hints
 pub record IsKept (t : Table) : Type 0 where
   pub tidy : IsTidy t.slots
   pub backed : AreBacked t.slots t.back
   pub listed : AreListed t.slots t.dead
-  pub located : AreLocated t.slots t.locals
+
+-- each row has the hint of its local USN
+abbrev pub AreNumbered : Table → Type 0
+AreNumbered t = AreLocated t.slots t.locals
 
 -- a row can be put without memory
 pub record HasRoom (t : Table) (h : Held) : Type 0 where
@@ -28,3 +35,7 @@ pub record HasRoom (t : Table) (h : Held) : Type 0 where
 
 abbrev pub HaveRoom : Table → List Held → Type 0
 HaveRoom t rows = (i : ℕ) (d : Held) → i < length rows → HasRoom t (slice_index_or rows i d)
+
+-- whether an update is of a row of the object, and no death
+abbrev pub is_life_of : Oid → Update → Bool
+is_life_of o u = is_row_of o u.key && is_none (killed_by u.key)

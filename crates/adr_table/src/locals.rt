@@ -133,12 +133,8 @@ fn last_local(slots: &Slots, unit: Place) -> Option<u64>
     ensures { result ≡ greatest None (rows_of_seat unit (rows_seen slots.now)) }
 {
     let mut last = None;
-    let mut run = slots.entries_from(unit);
-    while let Some((place, row)) = run.next() {
-        if !is_of_unit(&unit, &place) {
-            return last;
-        }
-        if let Some(row) = row {
+    for slot in slots.unit(&unit) {
+        if let Some(row) = slot.row() {
             last = Some(above(last, row.local()));
         }
     }
@@ -217,12 +213,8 @@ fn is_needed(slots: &Slots, hint: &Local) -> bool
     let Some(unit) = hint.unit else {
         return false;
     };
-    let mut run = slots.entries_from(unit);
-    while let Some((place, row)) = run.next() {
-        if !is_of_unit(&unit, &place) {
-            return false;
-        }
-        if let Some(row) = row {
+    for slot in slots.unit(&unit) {
+        if let Some(row) = slot.row() {
             if row.local() == hint.usn {
                 return true;
             }

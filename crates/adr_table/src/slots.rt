@@ -1,22 +1,26 @@
 //! Slots for rows.
 
-ghost use Rattle.std.specs.Prelude.{◌≡◌, ◌≤◌, ◌+◌, ◌++◌, [], IsSome, IfSome, IfNone, IfOk, OnOk, OnErr, cond, is_some, length, not, ◌&&◌, slice_get, Some, None, true};
+ghost use Rattle.std.specs.Prelude.{◌≡◌, ◌≤◌, ◌++◌, [], IsSome, IfSome, IfNone, IfOk, OnOk, OnErr, cond, false, fold, is_some, map, not, ◌&&◌, slice_get, Some, None, true};
 ghost use Rattle.std.specs.Option.{option_copied, option_map};
 ghost use Rattle.std.specs.Map.{lookup};
 ghost use Rattle.std.specs.BTreeMap.{is_at};
 ghost use Rattle.std.specs.BTreeMap.Range.{IsFromStart, IsLeBy, entries_between};
 ghost use Rattle.std.specs.declared.ops.Bound.TheVariants.{Included, Unbounded};
-ghost use Rattle.std.specs.List.{cons_option};
-ghost use Rattle.adr_model.specs.Store.{row_held, with_row};
+ghost use Rattle.std.specs.List.{cons_option, filter_map, list_all, list_any};
+ghost use Rattle.adr_values.specs.declared.stamp.LinkKey.{LinkKey};
+ghost use Rattle.adr_model.specs.Live.{born};
+ghost use Rattle.adr_model.specs.Store.{holds_object, is_row_of, row_held, with_row};
+ghost use Rattle.adr_model.specs.Update.{LinkOf};
 ghost use Rattle.adr_update.specs.Key.{key_of};
 ghost use Rattle.adr_update.specs.Referents.{referents};
 ghost use Rattle.adr_shelves.specs.Place.{IsStart, is_in_run, is_proper, place_of, place_order, values_start};
-ghost use Rattle.adr_shelves.specs.Shelves.{one_more_if};
+ghost use Rattle.adr_shelves.specs.Shelves.{held_at, one_more_if};
+ghost use Rattle.adr_table.specs.Locals.{rows_of_seat};
 ghost use Rattle.adr_table.specs.Slots.{AreFull, HasSlot, IsTidy, places, row_at, rows_in_run, rows_seen};
 
 use crate::NoMemory;
-use adr_shelves::{Place, Run, Shelves};
-use adr_update::{Held, Key};
+use adr_shelves::{Place, Run, Shelves, Slot};
+use adr_update::{Held, Key, Update};
 use adr_values::Oid;
 use std::alloc::Global;
 use std::ops::Bound;
@@ -51,6 +55,14 @@ impl Slots {
             Some(slot) => slot.as_ref(),
             None => None,
         }
+    }
+
+    /// The slots of the unit at a seat, by their attributes.
+    pub(crate) fn unit(&self, seat: &Place) -> &[Slot]
+        requires { IsTidy self.now }
+        ensures { filter_map (λ s. s.1) result.now ≡ rows_of_seat seat.now (rows_seen self.now) }
+    {
+        self.map.unit(seat)
     }
 
     /// Makes a slot at a place, if there is none, and tells the local update sequence number of the row in it. Nobody sees
@@ -88,6 +100,28 @@ impl Slots {
         let units = self.map.units();
         self.objects = one_more(units, self.objects, was, place.is_of_class());
         self.links = one_more(units, self.links, was, place.is_link);
+        Ok(())
+    }
+
+    /// Puts copies of rows of an object of which no row is there, under a local update sequence number. All are put, or none.
+    pub(crate) fn insert_object(
+        &mut self,
+        object: &Oid,
+        local: u64,
+        rows: &[Update],
+    ) -> Result<(), NoMemory>
+        requires tidy { IsTidy self.old }
+        requires own { list_all (λ u. is_row_of object.now u.key) rows.now ≡ true }
+        requires unheld { holds_object (rows_seen self.old) object.now ≡ false }
+        ensures tidy { IsTidy self.new }
+        ensures seen { OnOk result (rows_seen self.new ≡ fold with_row (rows_seen self.old) (map (held_at local) rows.now)) }
+        ensures links { (l : LinkKey) → row_at self.new (place_of (LinkOf l)) ≡ row_at self.old (place_of (LinkOf l)) }
+        ensures err { OnErr result (rows_seen self.new ≡ rows_seen self.old) }
+    {
+        self.map.put_object(object, local, rows)?;
+        self.map.are_in_order();
+        let units = self.map.units();
+        self.objects = one_more(units, self.objects, false, has_birth(rows));
         Ok(())
     }
 
@@ -153,7 +187,6 @@ impl Slots {
     /// Frees the slot of a place, if it is empty. Nobody sees it.
     pub(crate) fn free(&mut self, place: &Place)
         requires { IsTidy self.old }
-        ensures fewer { lookup (is_at (place_order place.now)) self.old.map ≡ Some None → 1 + length (places self.new) ≡ length (places self.old) }
         ensures seen { rows_seen self.new ≡ rows_seen self.old }
         ensures tidy { IsTidy self.new }
         ensures same { (q : Place) → row_at self.new q ≡ row_at self.old q }
@@ -196,6 +229,31 @@ impl Slots {
         ensures { result ≡ entries_between place_order (Included start) Unbounded self.now.map }
     {
         self.map.run_from(Bound::Included(start))
+    }
+
+    /// The rows of the unit at a seat, by their attributes.
+    pub(crate) fn rows_of_unit(&self, alloc: Global, seat: &Place) -> Result<Vec<&Held>, NoMemory>
+        requires { IsTidy self.now }
+        ensures { IfOk result (λ rows. referents rows.items ≡ rows_of_seat seat.now (rows_seen self.now)) }
+    {
+        let mut rows = Vec::new(alloc);
+        for slot in self.unit(seat) {
+            push_row(&mut rows, slot.row().as_ref())?;
+        }
+        Ok(rows)
+    }
+
+    /// Whether the unit at a seat has a row.
+    pub(crate) fn has_unit(&self, seat: &Place) -> bool
+        requires { IsTidy self.now }
+        ensures { result ≡ is_some (slice_get (rows_of_seat seat.now (rows_seen self.now)) 0) }
+    {
+        for slot in self.unit(seat) {
+            if slot.row().is_some() {
+                return true;
+            }
+        }
+        false
     }
 
     /// The rows in the slots of a run of places.
@@ -255,6 +313,18 @@ pub(crate) fn push_row<'a>(rows: &mut Vec<&'a Held>, row: Option<&'a Held>) -> R
         rows.push(row)?;
     }
     Ok(())
+}
+
+/// Whether one of the rows is a class row.
+fn has_birth(rows: &[Update]) -> bool
+    ensures { result ≡ list_any (λ u. is_some (born u.key)) rows.now }
+{
+    for row in rows {
+        if row.key().born().is_some() {
+            return true;
+        }
+    }
+    false
 }
 
 /// A count of rows in slots, with a row that is put, where none was and it counts.

@@ -3,7 +3,7 @@
 ghost use Rattle.std.specs.Prelude.{◌≡◌, IfSome, OnOk};
 ghost use Rattle.adr_model.specs.Store.{Held as Row};
 ghost use Rattle.adr_table.specs.Locals.{IsLocated};
-ghost use Rattle.adr_table.specs.Table.{HasRoom, HaveRoom, IsKept, rows_in};
+ghost use Rattle.adr_table.specs.Table.{AreNumbered, HasRoom, HaveRoom, IsKept, rows_in};
 
 use crate::locals::{Local, name};
 use crate::table::Table;
@@ -102,9 +102,11 @@ impl Table {
     /// of. Nobody sees it.
     fn reserve_one(&mut self, before: Option<&Held>, row: &Held) -> Result<Option<u64>, NoMemory>
         requires kept { IsKept self.old }
+        requires numbered { AreNumbered self.old }
         requires before { IfSome before (λ h. IsLocated self.old.locals h.now) }
         ensures rows { rows_in self.new ≡ rows_in self.old }
         ensures kept { IsKept self.new }
+        ensures numbered { AreNumbered self.new }
         ensures more { (h : Row) → HasRoom self.old h → HasRoom self.new h }
         ensures ok { OnOk result (HasRoom self.new row.now) }
     {
@@ -126,9 +128,11 @@ impl Table {
         rows: &[Held],
         removed: &[Oid],
     ) -> Result<Spare, NoMemory>
-        requires { IsKept self.old }
+        requires kept { IsKept self.old }
+        requires numbered { AreNumbered self.old }
         ensures rows { rows_in self.new ≡ rows_in self.old }
         ensures kept { IsKept self.new }
+        ensures numbered { AreNumbered self.new }
         ensures ok { OnOk result (HaveRoom self.new rows.now) }
     {
         let mut spare = Spare::new(alloc);

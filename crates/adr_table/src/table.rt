@@ -2,7 +2,6 @@
 
 ghost use Rattle.std.specs.Prelude.{◌≡◌, [], IfOk, filter, is_some, length};
 ghost use Rattle.std.specs.Option.{option_copied};
-ghost use Rattle.std.specs.List.{cons_option};
 ghost use Rattle.adr_model.specs.Change.{killed_by};
 ghost use Rattle.adr_model.specs.Formed.{AreRising};
 ghost use Rattle.adr_model.specs.Live.{objects_of};
@@ -11,13 +10,13 @@ ghost use Rattle.adr_model.specs.Write.{holds_guid, is_of_guid, links_in};
 ghost use Rattle.adr_update.specs.Key.{key_of};
 ghost use Rattle.adr_update.specs.Referents.{referents};
 ghost use Rattle.adr_update.specs.Sought.{IsNextLocal, is_link_from, is_link_to, rows_of_unit, units_at};
-ghost use Rattle.adr_table.specs.Table.{IsKept, rows_in};
+ghost use Rattle.adr_table.specs.Table.{AreNumbered, IsKept, rows_in};
 
 use crate::NoMemory;
 use crate::back::{Behind, rows_behind};
 use crate::deaths::deaths;
 use crate::locals::{Local, next_local, units_at};
-use crate::slots::{Slots, push_row};
+use crate::slots::Slots;
 use adr_shelves::Place;
 use adr_update::{Held, Key};
 use adr_values::{Guid, Oid, Unit};
@@ -25,7 +24,7 @@ use std::alloc::Global;
 use std::collections::BTreeSet;
 
 /// Rows in slots, with hints of the links that end at each object, of the objects that are held dead, and of the units that
-/// were written last under each local update sequence number.
+/// were written last under each local update sequence number. Rows that are put at once have no hints of the last kind.
 pub struct Table {
     pub(crate) slots: Slots,
     pub(crate) back: BTreeSet<Behind>,
@@ -49,6 +48,7 @@ impl Table {
     pub fn new(alloc: Global) -> Table
         ensures rows { rows_in result ≡ [] }
         ensures kept { IsKept result }
+        ensures numbered { AreNumbered result }
     {
         Table {
             slots: Slots::new(alloc),
@@ -71,7 +71,7 @@ impl Table {
         requires { IsKept self.now }
         ensures { result ≡ holds_object (rows_in self.now) object.now }
     {
-        self.slots.has_row_in_run(Place::before_rows(object))
+        self.slots.has_unit(&Place::before_rows(object))
     }
 
     /// Whether an object is held dead.
@@ -119,7 +119,7 @@ impl Table {
         ensures { IfOk result (λ rows.
             referents rows.items ≡ filter (λ h. is_row_of object.now h.update.key) (rows_in self.now)) }
     {
-        self.slots.rows_in_run(alloc, Place::before_rows(object))
+        self.slots.rows_of_unit(alloc, &Place::before_rows(object))
     }
 
     /// The rows of the objects of a GUID, in order.
@@ -165,13 +165,14 @@ impl Table {
     {
         match unit {
             Unit::Object(object) => self.rows_of(alloc, object),
-            Unit::Link(link) => only(alloc, self.row(Key::Link(*link))),
+            Unit::Link(link) => self.slots.rows_of_unit(alloc, &Place::of_link(link)),
         }
     }
 
     /// The next number behind this one that may be the last local update sequence number of a unit: none lies between.
     pub fn next_local(&self, usn: u64) -> Option<u64>
-        requires { IsKept self.now }
+        requires kept { IsKept self.now }
+        requires numbered { AreNumbered self.now }
         ensures { IsNextLocal (rows_in self.now) usn result }
     {
         next_local(&self.slots, &self.locals, usn)
@@ -179,7 +180,8 @@ impl Table {
 
     /// The units whose last local update sequence number is this, rising.
     pub fn units_at(&self, alloc: Global, usn: u64) -> Result<Vec<Unit>, NoMemory>
-        requires { IsKept self.now }
+        requires kept { IsKept self.now }
+        requires numbered { AreNumbered self.now }
         ensures { IfOk result (λ units. units.items ≡ units_at (rows_in self.now) usn) }
     {
         units_at(alloc, &self.slots, &self.locals, usn)
@@ -190,13 +192,4 @@ impl Table {
         requires { IsKept self.now }
         ensures { AreRising (rows_in self.now) }
     {}
-}
-
-/// A list of one row, or of none.
-fn only(alloc: Global, row: Option<&Held>) -> Result<Vec<&Held>, NoMemory>
-    ensures { IfOk result (λ rows. referents rows.items ≡ cons_option (option_copied row.entry) []) }
-{
-    let mut rows = Vec::new(alloc);
-    push_row(&mut rows, row)?;
-    Ok(rows)
 }

@@ -1,14 +1,15 @@
 //! How rows are written into a table.
 
-ghost use Rattle.std.specs.Prelude.{◌≡◌, None, OnErr, OnOk, Some, fold};
-ghost use Rattle.std.specs.List.{All};
+ghost use Rattle.std.specs.Prelude.{◌≡◌, None, OnErr, OnOk, Some, false, fold, map, true};
+ghost use Rattle.std.specs.List.{All, list_all};
 ghost use Rattle.adr_model.specs.Change.{put, rows_after, stripped, without_object};
-ghost use Rattle.adr_model.specs.Store.{Held as Row};
+ghost use Rattle.adr_model.specs.Store.{Held as Row, holds_object};
 ghost use Rattle.adr_table.specs.Slots.{AreFull, IsTidy, places, row_at, rows_seen};
 ghost use Rattle.adr_table.specs.Back.{AreBacked};
 ghost use Rattle.adr_table.specs.Deaths.{AreListed};
 ghost use Rattle.adr_table.specs.Locals.{AreLocated};
-ghost use Rattle.adr_table.specs.Table.{HasRoom, HaveRoom, IsKept, rows_in};
+ghost use Rattle.adr_shelves.specs.Shelves.{held_at};
+ghost use Rattle.adr_table.specs.Table.{AreNumbered, HasRoom, HaveRoom, IsKept, is_life_of, rows_in};
 ghost use Rattle.adr_shelves.specs.declared.place.Place.{Place as Seat};
 
 use crate::back::{Behind, empty_links_to, forget};
@@ -18,9 +19,8 @@ use crate::spare::Spare;
 use crate::table::Table;
 use crate::{NoMemory, back, deaths, locals};
 use adr_shelves::Place;
-use adr_update::Held;
+use adr_update::{Held, Update};
 use adr_values::{LinkKey, Oid};
-use std::alloc::Global;
 use std::collections::BTreeSet;
 
 /// Empties the slots of what goes with a dead object.
@@ -90,9 +90,11 @@ impl Table {
     /// Puts a row for which there is room.
     fn put(&mut self, row: Held)
         requires kept { IsKept self.old }
+        requires numbered { AreNumbered self.old }
         requires room { HasRoom self.old row }
         ensures rows { rows_in self.new ≡ put (rows_in self.old) row }
         ensures kept { IsKept self.new }
+        ensures numbered { AreNumbered self.new }
         ensures more { (h : Row) → HasRoom self.old h → HasRoom self.new h }
     {
         let key = row.key();
@@ -105,9 +107,11 @@ impl Table {
     /// Puts rows for which there is room.
     fn put_all(&mut self, rows: Vec<Held>)
         requires kept { IsKept self.old }
+        requires numbered { AreNumbered self.old }
         requires room { HaveRoom self.old rows.items }
         ensures rows { rows_in self.new ≡ fold put (rows_in self.old) rows.items }
         ensures kept { IsKept self.new }
+        ensures numbered { AreNumbered self.new }
     {
         for row in rows {
             self.put(row);
@@ -116,18 +120,22 @@ impl Table {
 
     /// Empties the slots of an object's rows.
     fn remove(&mut self, object: &Oid)
-        requires { IsKept self.old }
+        requires kept { IsKept self.old }
+        requires numbered { AreNumbered self.old }
         ensures rows { rows_in self.new ≡ without_object (rows_in self.old) object.now }
         ensures kept { IsKept self.new }
+        ensures numbered { AreNumbered self.new }
     {
         self.slots.empty_run(Place::before_rows(object));
     }
 
     /// Removes objects. Their links stay.
     fn remove_all(&mut self, objects: &[Oid])
-        requires { IsKept self.old }
+        requires kept { IsKept self.old }
+        requires numbered { AreNumbered self.old }
         ensures rows { rows_in self.new ≡ fold without_object (rows_in self.old) objects.now }
         ensures kept { IsKept self.new }
+        ensures numbered { AreNumbered self.new }
     {
         for object in objects {
             self.remove(object);
@@ -136,9 +144,11 @@ impl Table {
 
     /// Lets go of slots and hints that no row needs. Nobody sees them.
     fn free(&mut self, spare: &Spare)
-        requires { IsKept self.old }
+        requires kept { IsKept self.old }
+        requires numbered { AreNumbered self.old }
         ensures rows { rows_in self.new ≡ rows_in self.old }
         ensures kept { IsKept self.new }
+        ensures numbered { AreNumbered self.new }
     {
         free_all(&mut self.slots, spare.objects.as_slice());
         forget_all(&mut self.slots, &mut self.back, spare.links.as_slice());
@@ -150,43 +160,45 @@ impl Table {
     /// rows and its links. What is spare is let go of.
     pub fn write(&mut self, rows: Vec<Held>, removed: &[Oid], spare: Spare)
         requires kept { IsKept self.old }
+        requires numbered { AreNumbered self.old }
         requires room { HaveRoom self.old rows.items }
         ensures rows { rows_in self.new ≡ rows_after removed.now rows.items (rows_in self.old) }
         ensures kept { IsKept self.new }
+        ensures numbered { AreNumbered self.new }
     {
         self.put_all(rows);
         self.remove_all(removed);
         self.free(&spare);
     }
 
-    /// Makes room for a row and puts it. What is spare is let go of.
-    fn put_with_room(&mut self, alloc: Global, row: Held) -> Result<(), NoMemory>
-        requires { IsKept self.old }
-        ensures kept { IsKept self.new }
-        ensures ok { OnOk result (rows_in self.new ≡ put (rows_in self.old) row) }
-        ensures err { OnErr result (rows_in self.new ≡ rows_in self.old) }
-    {
-        let rows = vec![in alloc; row]?;
-        let spare = self.reserve(alloc, rows.as_slice(), &[])?;
-        self.write(rows, &[], spare);
-        Ok(())
-    }
-
-    /// Puts a row for which no room was made. A death takes its object's other rows and its links. The hint of the row that
-    /// it takes the place of may be left over.
-    pub fn put_now(&mut self, alloc: Global, row: Held) -> Result<(), NoMemory>
+    /// Puts a row for which no room was made. A death takes its object's other rows and its links. The row gets no hint of
+    /// its number.
+    pub fn put_now(&mut self, row: Held) -> Result<(), NoMemory>
         requires { IsKept self.old }
         ensures kept { IsKept self.new }
         ensures ok { OnOk result (rows_in self.new ≡ put (rows_in self.old) row) }
         ensures err { OnErr result (rows_in self.new ≡ rows_in self.old) }
     {
         let key = row.key();
-        if key.killed().is_some() {
-            return self.put_with_room(alloc, row);
-        }
-        locals::remember(&mut self.locals, None, &row)?;
         back::remember(&mut self.back, &key)?;
+        deaths::remember(&mut self.dead, &key)?;
         self.slots.insert(row)?;
+        if let Some(object) = key.killed() {
+            strip(&mut self.slots, &self.back, &object);
+        }
         Ok(())
+    }
+
+    /// Puts copies of rows of an object of which nothing is held, none of them a death, under a local update sequence number,
+    /// of which they get no hints.
+    pub fn put_object(&mut self, object: &Oid, local: u64, rows: &[Update]) -> Result<(), NoMemory>
+        requires kept { IsKept self.old }
+        requires own { list_all (is_life_of object.now) rows.now ≡ true }
+        requires unheld { holds_object (rows_in self.old) object.now ≡ false }
+        ensures kept { IsKept self.new }
+        ensures ok { OnOk result (rows_in self.new ≡ fold put (rows_in self.old) (map (held_at local) rows.now)) }
+        ensures err { OnErr result (rows_in self.new ≡ rows_in self.old) }
+    {
+        self.slots.insert_object(object, local, rows)
     }
 }

@@ -3,7 +3,7 @@ use Rattle.adr_model.specs.Change.{killed_by}
 use Rattle.adr_model.specs.Formed.{AreRising}
 use Rattle.adr_update.specs.Key.{key_of}
 use Rattle.adr_table.specs.Table.{rows_in}
-use Rattle.adr_overlay.specs.HeldAt.{held_at}
+use Rattle.adr_shelves.specs.Shelves.{held_at}
 use Rattle.adr_overlay.proofs.Telling.{told_rises, told_call, counted_call, objects_put, links_put, lost_few}
 use Rattle.adr_overlay.proofs.overlay.Overlay.put.Goals as goal
 

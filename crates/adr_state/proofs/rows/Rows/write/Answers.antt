@@ -16,6 +16,7 @@ invariant_of-self-2 c =
     ∙ ap (λ (ws : List Held). rows_after c.args.removed.now ws rows) (sym c.as_slice.ensures.value) in
     record {
       kept = c.write.ensures.kept;
+      numbered = c.write.ensures.numbered;
       live = c.apply.ensures.tree;
       same = still_tied rows (rows_in c.write.new.self) c.in_ok-edits.edits.items (nodes_in c.reserve.new.self) (nodes_in c.apply.new.self)
           c.are_rising.ensures c.are_in_order.ensures (c.reserve.ensures.nodes ∙ c.self.invariant.same) c.apply.ensures.nodes
@@ -30,6 +31,7 @@ pub invariant_of-self-in_err-spare : goal.invariant_of-self-in_err-spare
 invariant_of-self-in_err-spare c =
     record {
       kept = c.reserve-2.ensures.kept;
+      numbered = c.reserve-2.ensures.numbered;
       live = c.reserve.ensures.tree;
       same = c.reserve.ensures.nodes ∙ c.self.invariant.same ∙ ap (λ (hs : List Held). nodes_held (updates_of hs)) (sym c.reserve-2.ensures.rows);
     }

@@ -1,14 +1,11 @@
-use Rattle.std.proofs.Common.{◌≡◌, ◌∙◌, ap, refl, sym, ◌+◌, length}
-use Rattle.std.specs.Map.{keys_of, lookup}
+use Rattle.std.proofs.Common.{◌≡◌, ◌∙◌, refl, sym}
+use Rattle.std.specs.Map.{lookup}
 use Rattle.std.specs.BTreeMap.{is_at}
 use Rattle.adr_shelves.specs.Shelves.{flat, tally}
 use Rattle.adr_table.specs.Slots.{AreAtHome, seen}
 use Rattle.adr_shelves.specs.Place.{is_of_class, is_of_link, place_order}
-use Rattle.adr_table.proofs.Freed.{freed_fewer, freed_home, freed_or_same, freed_same, freed_seen, freed_tally}
+use Rattle.adr_table.proofs.Freed.{freed_home, freed_or_same, freed_same, freed_seen, freed_tally}
 use Rattle.adr_table.proofs.slots.Slots.free.Goals as goal
-
-pub returns-clause-fewer : goal.returns-clause-fewer
-returns-clause-fewer c empty = ap (λ es. 1 + length (keys_of es)) (c.free.ensures.freed empty) ∙ freed_fewer c.args.self.now.map c.args.place.now empty
 
 pub returns-clause-seen : goal.returns-clause-seen
 returns-clause-seen c =

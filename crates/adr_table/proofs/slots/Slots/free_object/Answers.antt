@@ -2,11 +2,10 @@ use Rattle.std.proofs.Common.{◌≡◌, ◌∙◌, ap, sym, subst, Bool}
 use Rattle.std.specs.Map.{lookup}
 use Rattle.std.specs.BTreeMap.{is_at}
 use Rattle.adr_shelves.specs.declared.place.Place.{Place}
-use Rattle.adr_shelves.specs.Place.{is_of_class, is_of_link, place_order, rows_start}
+use Rattle.adr_shelves.specs.Place.{is_of_class, is_of_link, is_of_unit, place_order, rows_start}
 use Rattle.adr_shelves.specs.Shelves.{flat, freed, tally}
 use Rattle.adr_table.specs.Slots.{AreAtHome, seen}
 use Rattle.adr_shelves.proofs.Entries.{Entries}
-use Rattle.adr_shelves.proofs.ShelvedUnits.{is_of_unit}
 use Rattle.adr_table.proofs.UnitFrees.{freed_home, freed_same, freed_seen, freed_tally, none_empty, run_of_unit, still_empty}
 use Rattle.adr_table.proofs.slots.Slots.free_object.Goals as goal
 use Rattle.adr_table.proofs.slots.Slots.free_object.Goals.{After-are_in_order}

@@ -19,8 +19,8 @@ fewer c q none = emptied c q ∙ still_none (is_in_run (rows_start c.args.object
 
 pub without : (c : goal.After-empty_run) → rows_seen c.empty_run.new.self ≡ without_object (rows_seen c.args.self.now.slots) c.args.object.now
 without c =
-    stripped_seen (is_row_of c.args.object.now) c.args.self.now.slots.map c.empty_run.new.self.map c.empty_run.ensures.places c.requires.tidy.ordered
-    (kept (is_row_of c.args.object.now) c.args.self.now.slots.map c.empty_run.new.self.map c.requires.tidy.home
+    stripped_seen (is_row_of c.args.object.now) c.args.self.now.slots.map c.empty_run.new.self.map c.empty_run.ensures.places c.requires.kept.tidy.ordered
+    (kept (is_row_of c.args.object.now) c.args.self.now.slots.map c.empty_run.new.self.map c.requires.kept.tidy.home
     (λ k. emptied c (place_of k) ∙ leaves c.args.object.now k (row_at c.args.self.now.slots (place_of k)))
     (fewer c))
 
@@ -30,7 +30,9 @@ returns-clause-rows c = without c
 pub returns-clause-kept : goal.returns-clause-kept
 returns-clause-kept c = record {
   tidy = c.empty_run.ensures.tidy;
-  backed = backed_fewer c.args.self.now.slots c.empty_run.new.self c.args.self.now.back c.requires.backed (fewer c);
-  listed = each_without c.args.self.now.slots c.empty_run.new.self (λ h. IsListed c.args.self.now.dead h.update.key) c.args.object.now c.requires.listed (without c);
-  located = each_without c.args.self.now.slots c.empty_run.new.self (IsLocated c.args.self.now.locals) c.args.object.now c.requires.located (without c);
+  backed = backed_fewer c.args.self.now.slots c.empty_run.new.self c.args.self.now.back c.requires.kept.backed (fewer c);
+  listed = each_without c.args.self.now.slots c.empty_run.new.self (λ h. IsListed c.args.self.now.dead h.update.key) c.args.object.now c.requires.kept.listed (without c);
 }
+
+pub returns-clause-numbered : goal.returns-clause-numbered
+returns-clause-numbered c = each_without c.args.self.now.slots c.empty_run.new.self (IsLocated c.args.self.now.locals) c.args.object.now c.requires.numbered (without c)

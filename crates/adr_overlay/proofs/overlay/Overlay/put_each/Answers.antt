@@ -1,6 +1,6 @@
 use Rattle.std.proofs.Common.{sym, ◌∙◌}
 use Rattle.adr_overlay.proofs.Holding.{unheld_row}
-use Rattle.adr_overlay.proofs.overlay.Overlay.put_all.Goals as goal
+use Rattle.adr_overlay.proofs.overlay.Overlay.put_each.Goals as goal
 
 pub put-requires : goal.put-requires
 put-requires c is_new =

@@ -2,8 +2,8 @@ use Rattle.std.proofs.Common.{◌≡◌, fold, map, take, false}
 use Rattle.std.specs.Prelude.{IfSome}
 use Rattle.adr_model.specs.Change.{put}
 use Rattle.adr_model.specs.Store.{holds_object}
-use Rattle.adr_overlay.specs.HeldAt.{held_at}
-use Rattle.adr_overlay.proofs.overlay.Overlay.put_all.Given as goal
+use Rattle.adr_shelves.specs.Shelves.{held_at}
+use Rattle.adr_overlay.proofs.overlay.Overlay.put_each.Given as goal
 
 -- the rows so far are put, and nothing is held of the object of which that is known
 abbrev pub invariant-loop-row : goal.invariant-loop-row
