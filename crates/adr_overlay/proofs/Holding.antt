@@ -1,14 +1,11 @@
 -- An object of which a row is held is held, and of another one none is.
 use Rattle.std.proofs.Common.{◌≡◌, ℕ, List, [], ◌∷◌, Bool, true, false, cond, ◌||◌, refl, sym, ap, ◌∙◌, Option, Some, None, is_some}
-use Rattle.std.specs.Prelude.{IfSome}
-use Rattle.std.specs.Option.{option_map_or}
 use Rattle.std.specs.Ordering.{is_eq}
 use Rattle.std.proofs.lemmas.Cmp.{tied_itself}
 use Rattle.adr_values.specs.declared.stamp.Oid.{Oid}
 use Rattle.adr_values.specs.contracts.stamp.OidOrd.TheImpl.Laws.{total-law as objects_total}
-use Rattle.adr_model.specs.Update.{Key, RowOf, LinkOf, same_key}
+use Rattle.adr_model.specs.Update.{RowOf, same_key}
 use Rattle.adr_model.specs.Store.{Held, row_held, holds_object, is_row_of}
-use Rattle.adr_model.proofs.Keys.{objects_tell}
 use Rattle.adr_overlay.proofs.Rising.{one_key}
 
 pub row_is_held : (rows : List Held) (o : Oid) (attr : ℕ) → is_some (row_held rows (RowOf o attr)) ≡ true → holds_object rows o ≡ true
@@ -33,9 +30,3 @@ none_held rows o attr absent = by (row_held rows (RowOf o attr)) refl
     by : (r : Option Held) → row_held rows (RowOf o attr) ≡ r → r ≡ None
     by None e = refl
     by (Some h) e = let no : false ≡ true = sym absent ∙ row_is_held rows o attr (ap is_some e) in cc
-
--- where an object may be known not to be held, none of its rows is
-pub unheld_row : (rows : List Held) (object : Option Oid) (k : Key) → IfSome object (λ o. holds_object rows o ≡ false) → option_map_or (λ o. is_row_of o k) object false ≡ true → row_held rows k ≡ None
-unheld_row rows None k away e = absurd (cc)
-unheld_row rows (Some o) (LinkOf l) away e = absurd (cc)
-unheld_row rows (Some o) (RowOf p attr) away e = ap (λ q. row_held rows (RowOf q attr)) (objects_tell p o e) ∙ none_held rows o attr away

@@ -1,8 +1,8 @@
 //! The rows of a controller with others over them, none of which is copied.
 
-ghost use Rattle.std.specs.Prelude.{◌≡◌, ◌+◌, ◌++◌, ◌&&◌, ◌||◌, Bool, IfOk, IfSome, IsTrue, OnErr, OnOk, None, Some, false, filter, fold, true, is_none, length, map, not, if◌then◌else◌};
+ghost use Rattle.std.specs.Prelude.{◌≡◌, ◌+◌, ◌++◌, ◌&&◌, ◌||◌, Bool, IfOk, IfSome, OnErr, OnOk, None, Some, false, filter, fold, true, is_none, length, map, not, if◌then◌else◌};
 ghost use Rattle.std.specs.List.{list_all};
-ghost use Rattle.std.specs.Option.{option_copied, option_map_or};
+ghost use Rattle.std.specs.Option.{option_copied};
 ghost use Rattle.adr_model.specs.Live.{objects_of};
 ghost use Rattle.adr_model.specs.Store.{Held as Row, holds_dead, holds_object, is_row_of, row_held, updates_of};
 ghost use Rattle.adr_model.specs.Change.{killed_by, put};
@@ -139,7 +139,7 @@ impl<'a> Overlay<'a> {
     {
         match unheld {
             Some(object) if are_life_of(rows, &object) => self.put_object(&object, local, rows),
-            _ => self.put_each(alloc, local, rows, unheld),
+            _ => self.put_each(alloc, local, rows),
         }
     }
 
@@ -156,33 +156,22 @@ impl<'a> Overlay<'a> {
     }
 
     /// Puts rows, each by itself.
-    fn put_each(
-        &mut self,
-        alloc: Global,
-        local: u64,
-        rows: &[Update],
-        mut unheld: Option<Oid>,
-    ) -> Result<(), NoMemory>
-        requires { IfSome unheld (λ o. holds_object self.old o ≡ false) }
+    fn put_each(&mut self, alloc: Global, local: u64, rows: &[Update]) -> Result<(), NoMemory>
         ensures { OnOk result (self.new ≡ fold put self.old (map (held_at local) rows.now)) }
     {
         for row in rows {
-            let is_new = is_row_of(row, unheld);
-            self.put(alloc, local, row, is_new)?;
-            unheld = None;
+            self.put(alloc, local, row)?;
         }
         Ok(())
     }
 
-    /// Puts a row in the place of the row of its key, if there is one: it may be known that there is none. A death takes
-    /// its object's other rows and its links.
-    fn put(&mut self, alloc: Global, local: u64, row: &Update, is_new: bool) -> Result<(), NoMemory>
-        requires { IsTrue is_new → row_held self.old row.now.key ≡ None }
+    /// Puts a row in the place of the row of its key, if there is one. A death takes its object's other rows and its links.
+    fn put(&mut self, alloc: Global, local: u64, row: &Update) -> Result<(), NoMemory>
         ensures { OnOk result (self.new ≡ put self.old (held_at local row.now)) }
     {
         let key = row.key();
         let lost = self.lost_by(alloc, &key)?;
-        let objects = self.objects_with(&key, is_new)?;
+        let objects = self.objects_with(&key)?;
         let links = self.links_with(&key)?;
         put_over(alloc, &mut self.over, local, row)?;
         self.objects = objects;
@@ -198,12 +187,11 @@ impl<'a> Overlay<'a> {
     }
 
     /// How many objects there are with a row of this key.
-    fn objects_with(&self, key: &Key, is_new: bool) -> Result<usize, NoMemory>
-        requires { IsTrue is_new → row_held self.now (key_of key.now) ≡ None }
+    fn objects_with(&self, key: &Key) -> Result<usize, NoMemory>
         ensures { IfOk result (λ count. count ≡ length (objects_of (updates_of self.now))
             + one (is_birth_row (key_of key.now) && is_none (row_held self.now (key_of key.now)))) }
     {
-        if key.born().is_some() && (is_new || self.lacks(key)) {
+        if key.born().is_some() && self.lacks(key) {
             sum(self.objects, 1)
         } else {
             Ok(self.objects)
@@ -273,16 +261,6 @@ fn are_life_of(rows: &[Update], object: &Oid) -> bool
         }
     }
     true
-}
-
-/// Whether a row is one of an object, if there is one.
-fn is_row_of(row: &Update, object: Option<Oid>) -> bool
-    ensures { result ≡ option_map_or (λ o. is_row_of o row.now.key) object false }
-{
-    match object {
-        Some(object) => row.key().is_row_of(&object),
-        None => false,
-    }
 }
 
 /// How many links there are at an object: those over the others, and of those below them what still counts.

@@ -3,6 +3,7 @@ pub mod Places
 pub mod ShelfPlaces
 pub mod Shelved
 pub mod ShelvedEmptied
+pub mod ShelvedFilled
 pub mod ShelvedFrees
 pub mod ShelvedObjects
 pub mod ShelvedParts

@@ -39,11 +39,11 @@ shelf_at (u ∷ us) are seat slots there = by (is_at (place_order seat) u.0) ref
 pub at_seat : (us : Shelved) (p seat : Place) (o : Option Kept) → seat ≡ seat_at p → o ≡ lookup (is_at (place_order seat)) us → lookup (is_at (place_order (seat_at p))) us ≡ o
 at_seat us p seat o is found = ap (λ s. lookup (is_at (place_order s)) us) (sym is) ∙ sym found
 
-found_in : (us : Shelved) → AreShelves us → (p : Place) → is_proper p ≡ true → (slots : Kept) → lookup (is_at (place_order (seat_at p))) us ≡ Some slots
+pub found_in : (us : Shelved) → AreShelves us → (p : Place) → is_proper p ≡ true → (slots : Kept) → lookup (is_at (place_order (seat_at p))) us ≡ Some slots
     → lookup (is_at (place_order p)) (entries_of us) ≡ lookup (is_at (nat_cmp p.attr)) slots
 found_in us are p proper slots there = looked us are p proper ∙ ap (option_and_then (λ slots. lookup (is_at (nat_cmp p.attr)) slots)) there
 
-found_none : (us : Shelved) → AreShelves us → (p : Place) → is_proper p ≡ true → lookup (is_at (place_order (seat_at p))) us ≡ None
+pub found_none : (us : Shelved) → AreShelves us → (p : Place) → is_proper p ≡ true → lookup (is_at (place_order (seat_at p))) us ≡ None
     → lookup (is_at (place_order p)) (entries_of us) ≡ None
 found_none us are p proper none = looked us are p proper ∙ ap (option_and_then (λ slots. lookup (is_at (nat_cmp p.attr)) slots)) none
 

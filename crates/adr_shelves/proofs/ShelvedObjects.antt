@@ -20,8 +20,8 @@ use Rattle.adr_model.proofs.Keys.{objects_tell}
 use Rattle.adr_update.proofs.Slots.{later_none, none_below as none_under}
 use Rattle.adr_shelves.specs.declared.place.Place.{Place}
 use Rattle.adr_shelves.specs.Place.{is_of_unit, is_proper, place_of, place_order, rows_start, seat_at}
-use Rattle.adr_shelves.specs.Shelf.{with_own}
-use Rattle.adr_shelves.specs.Shelves.{AreAllShelves, AreShelves, IsShelf, entries_of, held_at, shelf_entries, with_update, without_unit}
+use Rattle.adr_shelves.specs.Shelf.{with_own, with_own_held}
+use Rattle.adr_shelves.specs.Shelves.{AreAllShelves, AreShelves, IsShelf, entries_of, held_at, shelf_entries, with_held, with_update, without_unit}
 use Rattle.adr_shelves.proofs.Places.{places_total, proper_place}
 use Rattle.adr_shelves.proofs.Entries.{Entries}
 use Rattle.adr_shelves.proofs.Shelved.{Kept, Shelved, shelves_rest}
@@ -112,29 +112,32 @@ one_more us are p proper slots shelf v =
     ∙ put_at put puts.ordered puts.each p proper v
 
 -- the rows of an object stand at its seat
-row_seat : (o : Oid) (k : Key) → is_row_of o k ≡ true → seat_at (place_of k) ≡ rows_start o
+pub row_seat : (o : Oid) (k : Key) → is_row_of o k ≡ true → seat_at (place_of k) ≡ rows_start o
 row_seat o (RowOf p a) own = ap rows_start (objects_tell p o own)
 row_seat o (LinkOf l) own = cc
 
 -- a shelf of an object stays one with one more row
-object_put : (o : Oid) (local : ℕ) (slots : Kept) → IsShelf (rows_start o) slots → (u : Update) → IsShelf (rows_start o) (with_own local slots u)
-object_put o local slots shelf u = shelf_put (rows_start o) slots shelf (place_of u.key).attr (Some (held_at local u)) (λ link. let wrong : false ≡ true = link in cc)
+object_put : (o : Oid) (slots : Kept) → IsShelf (rows_start o) slots → (h : Held) → IsShelf (rows_start o) (with_own_held slots h)
+object_put o slots shelf h = shelf_put (rows_start o) slots shelf (place_of h.update.key).attr (Some h) (λ link. let wrong : false ≡ true = link in cc)
 
-copies_shelf : (o : Oid) (local : ℕ) (rows : List Update) (slots : Kept) → IsShelf (rows_start o) slots → IsShelf (rows_start o) (fold (with_own local) slots rows)
-copies_shelf o local [] slots shelf = shelf
-copies_shelf o local (u ∷ us) slots shelf = copies_shelf o local us (with_own local slots u) (object_put o local slots shelf u)
+-- rows, or what rows are made of
+module _ {A : Type 0} (row : A → Held) where
+  pub rows_shelf : (o : Oid) (xs : List A) (slots : Kept) → IsShelf (rows_start o) slots → IsShelf (rows_start o) (fold (λ s x. with_own_held s (row x)) slots xs)
+  rows_shelf o [] slots shelf = shelf
+  rows_shelf o (x ∷ xs) slots shelf = rows_shelf o xs (with_own_held slots (row x)) (object_put o slots shelf (row x))
 
-copies_put : (us : Shelved) → AreShelves us → (o : Oid) (local : ℕ) (rows : List Update) → list_all (λ u. is_row_of o u.key) rows ≡ true → (slots : Kept) → IsShelf (rows_start o) slots
-    → entries_of (insert_entry place_order us (rows_start o) (fold (with_own local) slots rows)) ≡ fold (with_update local) (entries_of (insert_entry place_order us (rows_start o) slots)) rows
-copies_put us are o local [] own slots shelf = refl
-copies_put us are o local (u ∷ rows) own slots shelf =
-    let both = both_true (is_row_of o u.key) (list_all (λ u. is_row_of o u.key) rows) own in
-    let here : seat_at (place_of u.key) ≡ rows_start o = row_seat o u.key both.0 in
-    copies_put us are o local rows both.1 (with_own local slots u) (object_put o local slots shelf u)
-    ∙ ap (λ (es : Entries). fold (with_update local) es rows)
-    (subst (λ (s : Place). entries_of (insert_entry place_order us s (with_own local slots u)) ≡ with_update local (entries_of (insert_entry place_order us s slots)) u)
-    here
-    (one_more us are (place_of u.key) (proper_place u.key) slots (subst (λ (s : Place). IsShelf s slots) (sym here) shelf) (Some (held_at local u))))
+  pub rows_put : (us : Shelved) → AreShelves us → (o : Oid) (xs : List A) → list_all (λ x. is_row_of o (row x).update.key) xs ≡ true → (slots : Kept) → IsShelf (rows_start o) slots
+      → entries_of (insert_entry place_order us (rows_start o) (fold (λ s x. with_own_held s (row x)) slots xs))
+      ≡ fold (λ es x. with_held es (row x)) (entries_of (insert_entry place_order us (rows_start o) slots)) xs
+  rows_put us are o [] own slots shelf = refl
+  rows_put us are o (x ∷ xs) own slots shelf =
+      let both = both_true (is_row_of o (row x).update.key) (list_all (λ x. is_row_of o (row x).update.key) xs) own in
+      let here : seat_at (place_of (row x).update.key) ≡ rows_start o = row_seat o (row x).update.key both.0 in
+      rows_put us are o xs both.1 (with_own_held slots (row x)) (object_put o slots shelf (row x))
+      ∙ ap (λ (es : Entries). fold (λ es x. with_held es (row x)) es xs)
+      (subst (λ (s : Place). entries_of (insert_entry place_order us s (with_own_held slots (row x))) ≡ with_held (entries_of (insert_entry place_order us s slots)) (row x))
+      here
+      (one_more us are (place_of (row x).update.key) (proper_place (row x).update.key) slots (subst (λ (s : Place). IsShelf s slots) (sym here) shelf) (Some (row x))))
 
 -- ---- copies of rows
 
@@ -168,6 +171,6 @@ new_replaced us new are o local rows own seat at slots copied is =
     let here : new ≡ insert_entry place_order us (rows_start o) made = is ∙ ap (λ s. insert_entry place_order us s slots) at ∙ ap (insert_entry place_order us (rows_start o)) copied in
     let none : IsShelf (rows_start o) [] = bare_shelf (rows_start o) refl in
     record {
-      are = subst AreShelves (sym here) (shelves_at us are (rows_start o) made (copies_shelf o local rows [] none));
-      entries = ap entries_of here ∙ copies_put us are o local rows own [] none ∙ ap (λ (es : Entries). fold (with_update local) es rows) (bare_put us are (rows_start o));
+      are = subst AreShelves (sym here) (shelves_at us are (rows_start o) made (rows_shelf (held_at local) o rows [] none));
+      entries = ap entries_of here ∙ rows_put (held_at local) us are o rows own [] none ∙ ap (λ (es : Entries). fold (with_update local) es rows) (bare_put us are (rows_start o));
     }

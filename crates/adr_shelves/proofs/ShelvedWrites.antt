@@ -162,7 +162,7 @@ none_at : (u : Place × Kept) (us : Shelved) → IsStrictlySortedBy place_order 
 none_at u us sorted s at = sym (ap (λ o. cond (is_eq o) (Some u.1) (lookup (is_at (place_order s)) us)) at) ∙ none_under place_order places_total s u us sorted at
 
 -- as it was
-kept_as_is : (us : Shelved) → IsStrictlySortedBy place_order (keys_of us) → (s : Place) → entries_of (insert_entry place_order us s (kept_at us s)) ≡ entries_of us
+pub kept_as_is : (us : Shelved) → IsStrictlySortedBy place_order (keys_of us) → (s : Place) → entries_of (insert_entry place_order us s (kept_at us s)) ≡ entries_of us
 kept_as_is [] sorted s = refl
 kept_as_is (u ∷ us) sorted s = by (place_order s u.0) refl (kept_as_is us (sorted_tail place_order u.0 (keys_of us) sorted) s)
   where

@@ -1,5 +1,5 @@
 -- Where the slot of an attribute stands in a shelf, or would stand.
-use Rattle.std.specs.Prelude.{◌≡◌, ℕ, ◌<◌, ◌≤◌, List, length, Option, Some, None, slice_index_or, slice_set, insert}
+use Rattle.std.specs.Prelude.{◌≡◌, ℕ, ◌<◌, ◌≤◌, List, length, Option, Some, None, IsSome, slice_index_or, slice_set, insert}
 use Rattle.std.specs.List.{remove}
 use Rattle.std.specs.Option.{unwrap_or}
 use Rattle.std.specs.Map.{lookup, remove_entry, set_value}
@@ -16,6 +16,14 @@ Slots = List (ℕ × Option Held)
 -- slots with an update in that of its attribute, under a local USN
 abbrev pub with_own : ℕ → Slots → Update → Slots
 with_own local slots u = insert_entry nat_cmp slots (place_of u.key).attr (Some (held_at local u))
+
+-- slots with a row in that of its attribute
+abbrev pub with_own_held : Slots → Held → Slots
+with_own_held slots h = insert_entry nat_cmp slots (place_of h.update.key).attr (Some h)
+
+-- a row has a slot
+abbrev pub HasOwn : Slots → Held → Type 0
+HasOwn slots h = IsSome (lookup (is_at (nat_cmp (place_of h.update.key).attr)) slots)
 
 -- the slot of the attribute stands at the place, where it is found, written again, emptied and taken out
 pub record IsPlaceOf (slots : Slots) (attr : ℕ) (i : ℕ) : Type 0 where

@@ -7,7 +7,10 @@ use Rattle.std.specs.Ordering.{nat_cmp}
 use Rattle.std.specs.declared.ops.Bound.{Bound}
 use Rattle.std.specs.declared.ops.Bound.TheVariants.{Included, Excluded}
 use Rattle.std.specs.BTreeMap.{insert_entry}
-use Rattle.adr_model.specs.Store.{Held}
+use Rattle.std.specs.Option.{is_none}
+use Rattle.adr_values.specs.declared.stamp.Oid.{Oid}
+use Rattle.adr_model.specs.Change.{killed_by}
+use Rattle.adr_model.specs.Store.{Held, is_row_of}
 use Rattle.adr_model.specs.Update.{Update}
 use Rattle.adr_shelves.specs.declared.place.Place.{Place}
 use Rattle.adr_shelves.specs.Place.{is_of_unit, place_in, place_of, place_order, seat_at}
@@ -78,3 +81,20 @@ held_at local u = record { update = u; local = local }
 -- slots with an update in that of its key
 abbrev pub with_update : ℕ → List (Place × Option Held) → Update → List (Place × Option Held)
 with_update local es u = insert_entry place_order es (place_of u.key) (Some (held_at local u))
+
+-- slots with a row in that of its key
+abbrev pub with_held : List (Place × Option Held) → Held → List (Place × Option Held)
+with_held es h = insert_entry place_order es (place_of h.update.key) (Some h)
+
+-- whether a row is one of an object, and no death
+abbrev pub is_life : Oid → Held → Bool
+is_life o h = is_row_of o h.update.key && is_none (killed_by h.update.key)
+
+-- the items at the front that pass, and the others
+abbrev pub front : {X : Type 0} → (X → Bool) → List X → List X
+front test [] = []
+front test (x ∷ xs) = cond (test x) (x ∷ front test xs) []
+
+abbrev pub behind_front : {X : Type 0} → (X → Bool) → List X → List X
+behind_front test [] = []
+behind_front test (x ∷ xs) = cond (test x) (behind_front test xs) (x ∷ xs)

@@ -5,8 +5,8 @@
 //! ordered map, in the order of their units. What a contract sees is the list of all slots, in the order of their places,
 //! which is that of keys. A slot without a row, and a shelf without slots, cost memory alone.
 //!
-//! It stands on `adr_update` and on the definitions in `adr_model`. It knows nothing of hints or deaths, and of how many rows
-//! there are only that no more can be than shelves.
+//! It stands on `adr_update` and on the definitions in `adr_model`. It knows nothing of hints, and keeps no counts: it tells
+//! that there are no more class rows, or links, than shelves, and whether a class row came where none was.
 #![tactic(auto)]
 
 mod place;

@@ -1,18 +1,24 @@
 //! The slots of one unit.
 
-ghost use Rattle.std.specs.Prelude.{◌≡◌, ◌↔◌, [], IfErr, IfOk, OnOk, OnErr, IsTrue, None, Some, filter, fold, is_some, nat_le};
+ghost use Rattle.std.specs.Prelude.{◌≡◌, ◌↔◌, ◌∷◌, ◌&&◌, [], IfErr, IfNone, IfOk, IfSome, IsSome, OnOk, OnErr, IsTrue, None, Some, filter, fold, is_some, nat_le, not, true};
 ghost use Rattle.std.specs.Option.{option_copied, option_map, unwrap_or};
+ghost use Rattle.std.specs.List.{list_any};
 ghost use Rattle.std.specs.List.Sorted.{IsStrictlySortedBy};
 ghost use Rattle.std.specs.Map.{keys_of, lookup, remove_entry, set_value};
 ghost use Rattle.std.specs.BTreeMap.{insert_entry, is_at};
 ghost use Rattle.std.specs.Ordering.{nat_cmp};
-ghost use Rattle.adr_shelves.specs.Shelves.{emptied, flat};
-ghost use Rattle.adr_shelves.specs.Shelf.{IsGapFor, IsPlaceOf, with_own};
+ghost use Rattle.adr_model.specs.Live.{born};
+ghost use Rattle.adr_model.specs.Member.{Each};
+ghost use Rattle.adr_model.specs.Update.{class_attr};
+ghost use Rattle.adr_shelves.specs.Shelves.{behind_front, emptied, flat, front, is_life};
+ghost use Rattle.adr_shelves.specs.Shelf.{HasOwn, IsGapFor, IsPlaceOf, with_own, with_own_held};
 
 use crate::NoMemory;
 use crate::place::attr_of;
-use adr_update::{Held, Update};
+use adr_update::{CLASS, Held, Update};
+use adr_values::Oid;
 use std::alloc::Global;
+use std::collections::VecDeque;
 use std::marker::Model;
 
 /// A slot for the row of an attribute.
@@ -150,6 +156,45 @@ impl Shelf {
         }
     }
 
+    /// Puts a row into its slot, for which there is one, and tells whether a row was there.
+    fn write(&mut self, attr: u16, row: Held) -> bool
+        requires rising { IsStrictlySortedBy nat_cmp (keys_of self.old) }
+        requires there { IsSome (lookup (is_at (nat_cmp attr)) self.old) }
+        ensures was { result ≡ is_some (flat (lookup (is_at (nat_cmp attr)) self.old)) }
+        ensures entries { self.new ≡ insert_entry nat_cmp self.old attr (Some row) }
+    {
+        match place_of(self.slots.as_slice(), attr) {
+            Ok(place) => {
+                let was = self.slots[place].row.is_some();
+                self.slots[place] = Slot {
+                    attr,
+                    row: Some(row),
+                };
+                was
+            }
+            Err(_) => unreachable!(),
+        }
+    }
+
+    /// Puts the rows at the front of others that are an object's and no deaths into their slots, and tells whether a class row
+    /// came where none was.
+    pub fn fill(&mut self, object: &Oid, rows: &mut VecDeque<Held>) -> bool
+        requires rising { IsStrictlySortedBy nat_cmp (keys_of self.old) }
+        requires there { Each (HasOwn self.old) (front (is_life object.now) rows.old.items) }
+        ensures rest { rows.new.items ≡ behind_front (is_life object.now) rows.old.items }
+        ensures entries { self.new ≡ fold with_own_held self.old (front (is_life object.now) rows.old.items) }
+        ensures came { result ≡ (not (is_some (flat (lookup (is_at (nat_cmp class_attr)) self.old)))
+            && list_any (λ h. is_some (born h.update.key)) (front (is_life object.now) rows.old.items)) }
+    {
+        let mut came = false;
+        while let Some(row) = next_life(object, rows) {
+            let attr = attr_of(&row.key());
+            let was = self.write(attr, row);
+            came = came || (attr == CLASS && !was);
+        }
+        came
+    }
+
     /// Makes room for one more slot, or for so many where there are none. A shelf has few slots, so it grows by one.
     fn make_room(&mut self, room: usize) -> Result<(), NoMemory>
         ensures { self.new ≡ self.old }
@@ -238,4 +283,24 @@ fn local_in(row: &Option<Held>) -> Option<u64>
         Some(row) => Some(row.local()),
         None => None,
     }
+}
+
+/// Whether a row is an object's, and no death.
+fn is_life(object: &Oid, row: &Held) -> bool
+    ensures { result ≡ is_life object.now row.now }
+{
+    let key = row.key();
+    key.is_row_of(object) && key.killed().is_none()
+}
+
+/// Takes the first of rows, if it is an object's and no death.
+fn next_life(object: &Oid, rows: &mut VecDeque<Held>) -> Option<Held>
+    ensures some { IfSome result (λ h. (rows.old.items ≡ h ∷ rows.new.items) × (is_life object.now h ≡ true)) }
+    ensures none { IfNone result ((rows.new.items ≡ rows.old.items) × (front (is_life object.now) rows.old.items ≡ [])) }
+{
+    let is_next = match rows.front() {
+        Some(row) => is_life(object, row),
+        None => false,
+    };
+    if is_next { rows.pop_front() } else { None }
 }

@@ -1,16 +1,19 @@
 //! Shelves: the slots of a unit stand side by side, those of an object by their attributes, and a link has one.
 
-ghost use Rattle.std.specs.Prelude.{◌≡◌, ◌≤◌, [], IfOk, OnOk, OnErr, None, Some, filter, fold, is_some, true};
+ghost use Rattle.std.specs.Prelude.{◌≡◌, ◌≤◌, ◌&&◌, [], IfOk, IsSome, OnOk, OnErr, not, None, Some, filter, fold, is_some, true};
 ghost use Rattle.std.specs.Option.{option_copied, option_map, unwrap_or};
-ghost use Rattle.std.specs.List.{list_all};
+ghost use Rattle.std.specs.List.{list_all, list_any};
 ghost use Rattle.std.specs.List.Sorted.{IsStrictlySortedBy};
 ghost use Rattle.std.specs.Map.{keys_of, lookup, remove_entry, set_value};
 ghost use Rattle.std.specs.BTreeMap.{insert_entry, is_at};
 ghost use Rattle.std.specs.BTreeMap.Range.{entries_between};
 ghost use Rattle.std.specs.declared.ops.Bound.TheVariants.{Unbounded};
+ghost use Rattle.adr_model.specs.Live.{born};
+ghost use Rattle.adr_model.specs.Member.{Each};
 ghost use Rattle.adr_model.specs.Store.{is_row_of};
-ghost use Rattle.adr_shelves.specs.Place.{is_in_run, is_of_class, is_of_link, is_of_unit, is_proper, place_order, rows_start, values_start};
-ghost use Rattle.adr_shelves.specs.Shelves.{emptied, flat, freed, shelf_entries, tally, with_update, without_unit};
+ghost use Rattle.adr_model.specs.Update.{RowOf, class_attr};
+ghost use Rattle.adr_shelves.specs.Place.{is_in_run, is_of_class, is_of_link, is_of_unit, is_proper, place_of, place_order, rows_start, values_start};
+ghost use Rattle.adr_shelves.specs.Shelves.{behind_front, emptied, flat, freed, front, is_life, shelf_entries, tally, with_held, with_update, without_unit};
 
 use crate::NoMemory;
 use crate::place::{Place, seat_at};
@@ -19,7 +22,7 @@ use crate::shelf::{Shelf, Slot};
 use adr_update::{Held, Update};
 use adr_values::Oid;
 use std::alloc::Global;
-use std::collections::BTreeMap;
+use std::collections::{BTreeMap, VecDeque};
 use std::marker::Model;
 use std::ops::Bound;
 
@@ -134,6 +137,21 @@ impl Shelves {
         let shelf = Shelf::of_copies(self.alloc, local, rows)?;
         let _ = self.map.insert(Place::before_rows(object), shelf)?;
         Ok(())
+    }
+
+    /// Puts the rows at the front of others that are an object's and no deaths into their slots, for which there are some, by
+    /// one search, and tells whether a class row came where none was.
+    pub fn fill_object(&mut self, object: &Oid, rows: &mut VecDeque<Held>) -> bool
+        requires { Each (λ h. IsSome (lookup (is_at (place_order (place_of h.update.key))) self.old)) (front (is_life object.now) rows.old.items) }
+        ensures rest { rows.new.items ≡ behind_front (is_life object.now) rows.old.items }
+        ensures entries { self.new ≡ fold with_held self.old (front (is_life object.now) rows.old.items) }
+        ensures came { result ≡ (not (is_some (flat (lookup (is_at (place_order (place_of (RowOf object.now class_attr)))) self.old)))
+            && list_any (λ h. is_some (born h.update.key)) (front (is_life object.now) rows.old.items)) }
+    {
+        match self.map.get_mut(&Place::before_rows(object)) {
+            Some(shelf) => shelf.fill(object, rows),
+            None => false,
+        }
     }
 
     /// Empties the slot of a place, if there is one, and tells whether a row was there.

@@ -61,12 +61,6 @@ step rows seen seen' old new g draft after are is up here there h = by (same_ide
 pub same_drafts : (rows seen seen' : List Held) (drafts : Drafts) → ((h : Identifier) → core_of h seen' ≡ core_of h seen) → AreDrafts rows seen drafts → AreDrafts rows seen' drafts
 same_drafts rows seen seen' drafts same are h = rw (same h) (are h)
 
--- the draft of a GUID begins
-pub draft_begun : (rows seen : List Held) (old new : Drafts) (g : Identifier) (draft : List Held) → get identifier_order old g ≡ None → draft ≡ core_of g rows
-    → Updates identifier_order old new g (Some draft) → AreDrafts rows seen old → AreDrafts rows seen new
-draft_begun rows seen old new g draft none is up are =
-    step rows seen seen old new g draft draft are (is ∙ ap (λ o. unwrap_or o (core_of g rows)) (sym none)) up (λ e. e) (λ h other. refl)
-
 -- the key of a reserved row
 is_reserved : (k : Key) (o : Oid) → core_object k ≡ Some o → (attr : ℕ) × (k ≡ RowOf o attr) × (is_core k ≡ true)
 is_reserved (RowOf p attr) o e = by (nat_lt deleted_attr attr) refl e

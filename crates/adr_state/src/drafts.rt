@@ -1,8 +1,6 @@
 //! The rows of the GUIDs that a change touches, as it leaves them.
 
-ghost use Rattle.std.specs.Prelude.{◌≡◌, List, Some, IfOk, IsSome, OnOk, fold};
-ghost use Rattle.std.specs.BTreeMap.{get};
-ghost use Rattle.adr_values.specs.Order.{identifier_order};
+ghost use Rattle.std.specs.Prelude.{◌≡◌, List, Some, IfOk, OnOk, fold};
 ghost use Rattle.adr_model.specs.Change.{put, rows_after, without_object};
 ghost use Rattle.adr_model.specs.Formed.{AreRising};
 ghost use Rattle.adr_model.specs.Store.{Held as Row};
@@ -71,27 +69,7 @@ fn remove_all<'a>(
     Ok(())
 }
 
-/// Begins the draft of a GUID with what the table has, unless it has begun.
-fn begin<'a>(
-    alloc: Global,
-    table: &'a Table,
-    drafts: &mut BTreeMap<Guid, Draft<'a>>,
-    guid: Guid,
-) -> Result<(), NoMemory>
-    requires { IsKept table.now }
-    ensures same { OnOk result ((seen : List Row) → AreDrafts (rows_in table.now) seen drafts.old
-        → AreDrafts (rows_in table.now) seen drafts.new) }
-    ensures begun { OnOk result (IsSome (get identifier_order drafts.new guid)) }
-{
-    if drafts.contains_key(&guid) {
-        return Ok(());
-    }
-    let draft = Draft::of(alloc, table, guid)?;
-    drafts.insert(guid, draft)?;
-    Ok(())
-}
-
-/// Removes an object from the draft of its GUID.
+/// Removes an object from the draft of its GUID, which begins with what the table has.
 fn remove_object<'a>(
     alloc: Global,
     table: &'a Table,
@@ -102,14 +80,15 @@ fn remove_object<'a>(
     ensures { OnOk result ((seen : List Row) → AreDrafts (rows_in table.now) seen drafts.old
         → AreDrafts (rows_in table.now) (without_object seen object.now) drafts.new) }
 {
-    begin(alloc, table, drafts, object.guid)?;
     match drafts.get_mut(&object.guid) {
-        Some(draft) => {
+        Some(draft) => draft.remove(object),
+        None => {
+            let mut draft = Draft::of(alloc, table, object.guid)?;
             draft.remove(object);
-            Ok(())
+            drafts.insert(object.guid, draft)?;
         }
-        None => unreachable!(),
     }
+    Ok(())
 }
 
 /// Writes a row into the draft of its GUID, if it says anything of live objects.
@@ -129,7 +108,7 @@ fn write_row<'a>(
     }
 }
 
-/// Writes a row of an object into the draft of its GUID.
+/// Writes a row of an object into the draft of its GUID, which begins with what the table has.
 fn write_core<'a>(
     alloc: Global,
     table: &'a Table,
@@ -142,9 +121,13 @@ fn write_core<'a>(
     ensures { OnOk result ((seen : List Row) → AreRising seen → AreDrafts (rows_in table.now) seen drafts.old
         → AreDrafts (rows_in table.now) (put seen row.now) drafts.new) }
 {
-    begin(alloc, table, drafts, object.guid)?;
     match drafts.get_mut(&object.guid) {
         Some(draft) => draft.write(row),
-        None => unreachable!(),
+        None => {
+            let mut draft = Draft::of(alloc, table, object.guid)?;
+            draft.write(row)?;
+            drafts.insert(object.guid, draft)?;
+            Ok(())
+        }
     }
 }

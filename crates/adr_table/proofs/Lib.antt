@@ -2,6 +2,7 @@ pub mod Behinds
 pub mod Births
 pub mod Counts
 pub mod Emptied
+pub mod Fills
 pub mod Freed
 pub mod Hinted
 pub mod Linked

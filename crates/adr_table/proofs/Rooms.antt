@@ -1,5 +1,5 @@
 -- Room for rows stays, and so do hints.
-use Rattle.std.proofs.Common.{◌≡◌, ◌⊎◌, inl, inr, refl, sym, ap, ◌∙◌, subst, arith, ℕ, ◌+◌, ◌<◌, ◌≤◌, length, List, [], ◌∷◌, Bool, true, false, cond, ◌||◌, Option, Some, None, suc, slice_index_or}
+use Rattle.std.proofs.Common.{◌≡◌, ◌⊎◌, inl, inr, refl, sym, ap, ◌∙◌, subst, arith, ℕ, ◌+◌, ◌<◌, ◌≤◌, length, List, [], ◌∷◌, Bool, true, false, cond, ◌||◌, Option, Some, None, zero, suc, slice_index_or}
 use Rattle.std.specs.Prelude.{IsSome, is_some}
 use Rattle.std.specs.Map.{keys_of, lookup}
 use Rattle.std.specs.Option.{option_map}
@@ -12,6 +12,7 @@ use Rattle.adr_values.specs.declared.stamp.Oid.{Oid}
 use Rattle.adr_model.proofs.Keys.{equal_order}
 use Rattle.adr_model.specs.Update.{Key, RowOf, LinkOf}
 use Rattle.adr_model.specs.Change.{stripped}
+use Rattle.adr_model.specs.Member.{Each}
 use Rattle.adr_model.specs.Store.{Held, with_row}
 use Rattle.adr_shelves.specs.declared.place.Place.{Place}
 use Rattle.adr_table.specs.declared.slots.Slots.{Slots}
@@ -158,6 +159,17 @@ room_first t h hs room = room 0 h (omega arith)
 
 pub room_later : (t s : Table) (h : Held) (hs : List Held) → HaveRoom t (h ∷ hs) → ((x : Held) → HasRoom t x → HasRoom s x) → HaveRoom s hs
 room_later t s h hs room more i d lt = more (slice_index_or hs i d) (room (suc i) d (omega (arith, lt)))
+
+-- by index, or of each
+pub room_each : (t : Table) (rows : List Held) → HaveRoom t rows → Each (HasRoom t) rows
+room_each t [] room h m = absurd m
+room_each t (x ∷ xs) room h (inl e) = subst (HasRoom t) (sym e) (room_first t x xs room)
+room_each t (x ∷ xs) room h (inr m) = room_each t xs (room_later t t x xs room (λ y r. r)) h m
+
+pub each_room : (t : Table) (rows : List Held) → Each (HasRoom t) rows → HaveRoom t rows
+each_room t [] each i d lt = absurd (omega (arith, lt))
+each_room t (x ∷ xs) each zero d lt = each x (inl refl)
+each_room t (x ∷ xs) each (suc i) d lt = each_room t xs (λ y m. each y (inr m)) i d (omega (arith, lt))
 
 -- room for one row more
 pub room_next : (t s : Table) (rows : List Held) (n : ℕ) (x : Held) → n < length rows → x ≡ slice_index_or rows n x

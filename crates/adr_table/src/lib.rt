@@ -4,9 +4,9 @@
 //! Rows stand in slots. Those of an object stand on one shelf, in the order of their attributes, and each link has a shelf of
 //! its own. Shelves stand in one ordered map, in the order of their units, so that rows are in the order of their keys.
 //!
-//! A write first makes room: a slot and hints for each row. Then it can't fail. A single row may also be put at once, by one
-//! search of the map where its unit has a shelf. Slots without a row and hints without one are seen by nobody; they cost
-//! memory alone.
+//! A write first makes room: a slot and hints for each row. Then it can't fail, and writes the rows of an object by one search
+//! of the map. A single row, or those of an object of which nothing is held, may also be put at once, without room made before.
+//! Slots without a row and hints without one are seen by nobody; they cost memory alone.
 //!
 //! It stands on `adr_update` and on the definitions in `adr_model`. It knows nothing of schemas, vectors or marks.
 #![tactic(auto)]

@@ -9,12 +9,13 @@ ghost use Rattle.std.specs.declared.ops.Bound.TheVariants.{Included, Unbounded};
 ghost use Rattle.std.specs.List.{cons_option, filter_map, list_all, list_any};
 ghost use Rattle.adr_values.specs.declared.stamp.LinkKey.{LinkKey};
 ghost use Rattle.adr_model.specs.Live.{born};
+ghost use Rattle.adr_model.specs.Member.{Each};
 ghost use Rattle.adr_model.specs.Store.{holds_object, is_row_of, row_held, with_row};
 ghost use Rattle.adr_model.specs.Update.{LinkOf};
 ghost use Rattle.adr_update.specs.Key.{key_of};
 ghost use Rattle.adr_update.specs.Referents.{referents};
 ghost use Rattle.adr_shelves.specs.Place.{IsStart, is_in_run, is_proper, place_of, place_order, values_start};
-ghost use Rattle.adr_shelves.specs.Shelves.{held_at, one_more_if};
+ghost use Rattle.adr_shelves.specs.Shelves.{behind_front, front, held_at, is_life, one_more_if};
 ghost use Rattle.adr_table.specs.Locals.{rows_of_seat};
 ghost use Rattle.adr_table.specs.Slots.{AreFull, HasSlot, IsTidy, places, row_at, rows_in_run, rows_seen};
 
@@ -23,6 +24,7 @@ use adr_shelves::{Place, Run, Shelves, Slot};
 use adr_update::{Held, Key, Update};
 use adr_values::Oid;
 use std::alloc::Global;
+use std::collections::VecDeque;
 use std::ops::Bound;
 
 /// Slots for rows, in order of their places, and how many class rows and how many link rows are in them.
@@ -139,6 +141,22 @@ impl Slots {
             Ok(()) => {}
             Err(_) => unreachable!(),
         }
+    }
+
+    /// Puts the rows at the front of others that are an object's and no deaths into their slots, for which there are some.
+    pub(crate) fn fill_object(&mut self, object: &Oid, rows: &mut VecDeque<Held>)
+        requires tidy { IsTidy self.old }
+        requires room { Each (λ h. HasSlot self.old (place_of h.update.key)) (front (is_life object.now) rows.old.items) }
+        ensures rest { rows.new.items ≡ behind_front (is_life object.now) rows.old.items }
+        ensures tidy { IsTidy self.new }
+        ensures seen { rows_seen self.new ≡ fold with_row (rows_seen self.old) (front (is_life object.now) rows.old.items) }
+        ensures links { (l : LinkKey) → row_at self.new (place_of (LinkOf l)) ≡ row_at self.old (place_of (LinkOf l)) }
+        ensures places { places self.new ≡ places self.old }
+    {
+        let came = self.map.fill_object(object, rows);
+        self.map.are_in_order();
+        let units = self.map.units();
+        self.objects = one_more(units, self.objects, false, came);
     }
 
     /// Empties the slot of a place, if there is one.

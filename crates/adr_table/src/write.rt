@@ -1,6 +1,6 @@
 //! How rows are written into a table.
 
-ghost use Rattle.std.specs.Prelude.{◌≡◌, None, OnErr, OnOk, Some, false, fold, map, true};
+ghost use Rattle.std.specs.Prelude.{◌≡◌, ◌<◌, [], IfSome, None, OnErr, OnOk, Some, false, fold, length, map, true};
 ghost use Rattle.std.specs.List.{All, list_all};
 ghost use Rattle.adr_model.specs.Change.{put, rows_after, stripped, without_object};
 ghost use Rattle.adr_model.specs.Store.{Held as Row, holds_object};
@@ -8,7 +8,7 @@ ghost use Rattle.adr_table.specs.Slots.{AreFull, IsTidy, places, row_at, rows_se
 ghost use Rattle.adr_table.specs.Back.{AreBacked};
 ghost use Rattle.adr_table.specs.Deaths.{AreListed};
 ghost use Rattle.adr_table.specs.Locals.{AreLocated};
-ghost use Rattle.adr_shelves.specs.Shelves.{held_at};
+ghost use Rattle.adr_shelves.specs.Shelves.{front, held_at, is_life};
 ghost use Rattle.adr_table.specs.Table.{AreNumbered, HasRoom, HaveRoom, IsKept, is_life_of, rows_in};
 ghost use Rattle.adr_shelves.specs.declared.place.Place.{Place as Seat};
 
@@ -19,9 +19,9 @@ use crate::spare::Spare;
 use crate::table::Table;
 use crate::{NoMemory, back, deaths, locals};
 use adr_shelves::Place;
-use adr_update::{Held, Update};
+use adr_update::{Held, Key, Update};
 use adr_values::{LinkKey, Oid};
-use std::collections::BTreeSet;
+use std::collections::{BTreeSet, VecDeque};
 
 /// Empties the slots of what goes with a dead object.
 fn strip(slots: &mut Slots, back: &BTreeSet<Behind>, object: &Oid)
@@ -86,6 +86,18 @@ fn forget_locals(slots: &Slots, locals: &mut BTreeSet<Local>, hints: &[Local])
     }
 }
 
+/// The object of the first of rows, if that is a row of one and no death.
+fn next_life(rows: &VecDeque<Held>) -> Option<Oid>
+    ensures { IfSome result (λ o. front (is_life o) rows.now.items ≡ [] → ⊥) }
+{
+    let key = rows.front()?.key();
+    let dies = key.killed().is_some();
+    match key {
+        Key::Row { object, .. } if !dies => Some(object),
+        _ => None,
+    }
+}
+
 impl Table {
     /// Puts a row for which there is room.
     fn put(&mut self, row: Held)
@@ -104,6 +116,39 @@ impl Table {
         }
     }
 
+    /// Puts the first of rows for which there is room.
+    fn put_first(&mut self, rows: &mut VecDeque<Held>)
+        requires kept { IsKept self.old }
+        requires numbered { AreNumbered self.old }
+        requires room { HaveRoom self.old rows.old.items }
+        ensures rows { fold put (rows_in self.new) rows.new.items ≡ fold put (rows_in self.old) rows.old.items }
+        ensures fewer { 0 < length rows.old.items → length rows.new.items < length rows.old.items }
+        ensures kept { IsKept self.new }
+        ensures numbered { AreNumbered self.new }
+        ensures room { HaveRoom self.new rows.new.items }
+    {
+        if let Some(row) = rows.pop_front() {
+            self.put(row);
+        }
+    }
+
+    /// Puts the first of rows for which there is room, and with it those behind it that are of the same object and no deaths.
+    fn put_front(&mut self, rows: &mut VecDeque<Held>)
+        requires kept { IsKept self.old }
+        requires numbered { AreNumbered self.old }
+        requires room { HaveRoom self.old rows.old.items }
+        ensures rows { fold put (rows_in self.new) rows.new.items ≡ fold put (rows_in self.old) rows.old.items }
+        ensures fewer { 0 < length rows.old.items → length rows.new.items < length rows.old.items }
+        ensures kept { IsKept self.new }
+        ensures numbered { AreNumbered self.new }
+        ensures room { HaveRoom self.new rows.new.items }
+    {
+        match next_life(rows) {
+            Some(object) => self.slots.fill_object(&object, rows),
+            None => self.put_first(rows),
+        }
+    }
+
     /// Puts rows for which there is room.
     fn put_all(&mut self, rows: Vec<Held>)
         requires kept { IsKept self.old }
@@ -113,8 +158,9 @@ impl Table {
         ensures kept { IsKept self.new }
         ensures numbered { AreNumbered self.new }
     {
-        for row in rows {
-            self.put(row);
+        let mut rows = VecDeque::from_vec(rows);
+        while !rows.is_empty() {
+            self.put_front(&mut rows);
         }
     }
 
