@@ -176,11 +176,20 @@ impl Change {
     }
 }
 
+/// How many rows are written, for which room is made.
+fn room_for(writes: &[Written]) -> usize {
+    let mut room: usize = 0;
+    for written in writes {
+        room = room.saturating_add(written.item().rows().len());
+    }
+    room
+}
+
 /// The rows of what is written, each under its local update sequence number, in order. None is copied.
 fn held_of(alloc: Global, writes: Vec<Written>) -> Result<Vec<Held>, NoMemory>
     ensures { IfOk result (λ rows. rows.items ≡ held_of writes.items) }
 {
-    let mut rows = Vec::new(alloc);
+    let mut rows = Vec::with_capacity(alloc, room_for(writes.as_slice()))?;
     for written in writes {
         written.push_held(&mut rows)?;
     }

@@ -46,7 +46,7 @@ impl<'a> Candidate<'a> {
 fn copy_updates(alloc: Global, rows: &[&Held]) -> Result<Vec<Update>, NoMemory>
     ensures { IfOk result (λ updates. updates.items ≡ updates_of (referents rows.now)) }
 {
-    let mut updates = Vec::new(alloc);
+    let mut updates = Vec::with_capacity(alloc, rows.len())?;
     for row in rows {
         updates.push(row.update().copy(alloc)?)?;
     }

@@ -150,7 +150,7 @@ fn vector_if(alloc: Global, is_last: bool, state: &State) -> Result<Option<Vecto
 fn items_of(alloc: Global, sent: Vec<(u64, Item)>) -> Result<Vec<Item>, NoMemory>
     ensures { IfOk result (λ items. items.items ≡ map (λ (c : ℕ × Defined). c.1) sent.items) }
 {
-    let mut items = Vec::new(alloc);
+    let mut items = Vec::with_capacity(alloc, sent.len())?;
     for (_, item) in sent {
         items.push(item)?;
     }

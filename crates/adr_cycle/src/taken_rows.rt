@@ -35,7 +35,7 @@ fn each_taken(
 ) -> Result<Vec<Update>, NoMemory>
     ensures { IfOk result (λ taken. taken.items ≡ filter (is_taken held.now standing) rows.now) }
 {
-    let mut taken = Vec::new(alloc);
+    let mut taken = Vec::with_capacity(alloc, rows.len())?;
     for row in rows {
         take_row(alloc, held, standing, row, &mut taken)?;
     }

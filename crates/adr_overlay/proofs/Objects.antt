@@ -11,8 +11,7 @@ use Rattle.adr_model.specs.Update.{Key, RowOf, LinkOf, Update, class_attr, same_
 use Rattle.adr_model.specs.Write.{is_link_row, links_in}
 use Rattle.adr_model.proofs.Keys.{objects_tell}
 use Rattle.adr_law_knowledge.proofs.RisingHeld.{put_rises}
-use Rattle.adr_table.specs.Table.{is_life_of}
-use Rattle.adr_shelves.specs.Shelves.{held_at}
+use Rattle.adr_shelves.specs.Shelves.{held_at, is_life_of}
 use Rattle.adr_overlay.specs.Overlay.{IsCounted, is_birth_row, links_lost, one, told}
 use Rattle.adr_overlay.proofs.Births.{links_after, objects_after}
 use Rattle.adr_overlay.proofs.Holding.{none_held}

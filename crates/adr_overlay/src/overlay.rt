@@ -12,8 +12,8 @@ ghost use Rattle.adr_model.specs.Write.{is_link_row, links_in};
 ghost use Rattle.adr_update.specs.Key.{key_of};
 ghost use Rattle.adr_update.specs.Referents.{referents};
 ghost use Rattle.adr_update.specs.Sought.{is_link_from};
-ghost use Rattle.adr_shelves.specs.Shelves.{held_at};
-ghost use Rattle.adr_table.specs.Table.{IsKept, is_life_of, rows_in};
+ghost use Rattle.adr_shelves.specs.Shelves.{held_at, is_life_of};
+ghost use Rattle.adr_table.specs.Table.{IsKept, rows_in};
 ghost use Rattle.adr_overlay.specs.Overlay.{is_birth_row, is_left, is_stripped, links_found, links_lost, one};
 
 use crate::NoMemory;

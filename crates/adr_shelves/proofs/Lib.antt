@@ -5,6 +5,7 @@ pub mod Shelved
 pub mod ShelvedEmptied
 pub mod ShelvedFilled
 pub mod ShelvedFrees
+pub mod ShelvedMade
 pub mod ShelvedObjects
 pub mod ShelvedParts
 pub mod ShelvedRuns

@@ -13,7 +13,7 @@ use Rattle.std.specs.Cmp.{IsTotalOrder}
 use Rattle.std.proofs.lemmas.Bool.Decides.{nat_tests}
 use Rattle.std.proofs.lemmas.Cmp.{nat_cmp_total, tied_itself}
 use Rattle.std.proofs.lemmas.Map.Keys.{sorted_tail}
-use Rattle.std.proofs.lemmas.Map.Lookups.{CmpEqualImpliesEq, exact_unsigned}
+use Rattle.std.proofs.lemmas.Map.Lookups.{exact_unsigned}
 use Rattle.adr_values.specs.declared.stamp.Oid.{Oid}
 use Rattle.adr_values.proofs.Comparing.{both_true}
 use Rattle.adr_model.specs.Change.{killed_by}
@@ -28,43 +28,16 @@ use Rattle.adr_shelves.specs.declared.place.Place.{Place}
 use Rattle.adr_shelves.specs.Place.{place_of, place_order, rows_start, seat_at}
 use Rattle.adr_shelves.specs.Shelf.{HasOwn, with_own_held}
 use Rattle.adr_shelves.specs.Shelves.{AreShelves, behind_front, entries_of, flat, front, is_life, with_held}
-use Rattle.adr_shelves.proofs.Places.{exact_places, places_total, proper_place}
+use Rattle.adr_shelves.proofs.Places.{places_total, proper_place}
 use Rattle.adr_shelves.proofs.Entries.{Entries}
 use Rattle.adr_shelves.proofs.Shelved.{Kept, Shelved}
 use Rattle.adr_shelves.proofs.ShelvedFrees.{found_in, found_none, shelf_at}
-use Rattle.adr_shelves.proofs.ShelvedObjects.{row_seat, rows_put, rows_shelf}
-use Rattle.adr_shelves.proofs.ShelvedWrites.{kept_as_is, kept_at, shelves_at, sorted_put}
+use Rattle.adr_shelves.proofs.ShelvedObjects.{row_seat, rows_have}
+use Rattle.adr_shelves.proofs.ShelvedWrites.{HaveNow, kept_as_is, kept_at, lookup_put, sorted_put}
 
--- ---- what is found after one was put, and one written where it is found
+-- ---- what is written where it is found
 
-module _ {K X : Type 0} (order : K → K → Ordering) (total : IsTotalOrder order) (exact : CmpEqualImpliesEq order) (k : K) (v : X) where
-  lookup_put : (q : K) (es : List (K × X)) → lookup (is_at (order q)) (insert_entry order es k v) ≡ cond (is_at (order q) k) (Some v) (lookup (is_at (order q)) es)
-  lookup_put q [] = refl
-  lookup_put q (e ∷ es) = by (order k e.0) refl (lookup_put q es)
-    where
-      twice : (b : Bool) (w : Option X) → cond b (Some v) w ≡ cond b (Some v) (cond b (Some e.1) w)
-      twice true w = refl
-      twice false w = refl
-
-      apart : (b d : Bool) → is_at (order q) e.0 ≡ b → is_at (order q) k ≡ d → order k e.0 ≡ Greater → (w : Option X)
-          → cond b (Some e.1) (cond d (Some v) w) ≡ cond d (Some v) (cond b (Some e.1) w)
-      apart true true at here above w =
-          let same : k ≡ e.0 = sym (exact q k (equal_order (order q k) here)) ∙ exact q e.0 (equal_order (order q e.0) at) in
-          let wrong : Equal ≡ Greater = sym (tied_itself total e.0) ∙ sym (ap (λ x. order x e.0) same) ∙ above in cc
-      apart true false at here above w = refl
-      apart false true at here above w = refl
-      apart false false at here above w = refl
-
-      by : (o : Ordering) → order k e.0 ≡ o → lookup (is_at (order q)) (insert_entry order es k v) ≡ cond (is_at (order q) k) (Some v) (lookup (is_at (order q)) es)
-          → lookup (is_at (order q)) (match_ordering o ((k, v) ∷ e ∷ es) ((e.0, v) ∷ es) (e ∷ insert_entry order es k v)) ≡ cond (is_at (order q) k) (Some v) (lookup (is_at (order q)) (e ∷ es))
-      by Less at later = refl
-      by Equal at later =
-          twice (is_at (order q) e.0) (lookup (is_at (order q)) es)
-          ∙ ap (λ x. cond (is_at (order q) x) (Some v) (lookup (is_at (order q)) (e ∷ es))) (sym (exact k e.0 at))
-      by Greater at later =
-          ap (λ o. cond (is_at (order q) e.0) (Some e.1) o) later
-          ∙ apart (is_at (order q) e.0) (is_at (order q) k) refl refl at (lookup (is_at (order q)) es)
-
+module _ {K X : Type 0} (order : K → K → Ordering) (total : IsTotalOrder order) (k : K) (v : X) where
   set_put : (w : X) (es : List (K × X)) → IsStrictlySortedBy order (keys_of es) → lookup (is_at (order k)) es ≡ Some w → set_value (is_at (order k)) es v ≡ insert_entry order es k v
   set_put w [] sorted there = cc
   set_put w (e ∷ es) sorted there = by (order k e.0) refl there (set_put w es (sorted_tail order e.0 (keys_of es) sorted))
@@ -290,16 +263,17 @@ module _ (us : Shelved) (are : AreShelves us) (o : Oid) (rows : List Held) (seat
         let shelf = shelf_at us are.each (rows_start o) slots found in
         let here : new ≡ insert_entry place_order us (rows_start o) made =
         is ∙ ap (λ s. set_value (is_at (place_order s)) us kept) at ∙ ap (set_value (is_at (place_order (rows_start o))) us) put
-        ∙ set_put place_order places_total exact_places (rows_start o) made slots us are.ordered found
+        ∙ set_put place_order places_total (rows_start o) made slots us are.ordered found
         in
         let same : kept_at us (rows_start o) ≡ slots = ap (λ (w : Option Kept). unwrap_or w []) found in
+        let have : HaveNow new (fold with_held (entries_of us) (front (is_life o) rows)) =
+        rows_have (λ h. h.update.key) (λ h w. Some h) us are o (front (is_life o) rows) (lives_own o rows) slots shelf new here
+        (entries_of us) (sym (ap (λ (k : Kept). entries_of (insert_entry place_order us (rows_start o) k)) same) ∙ kept_as_is us are.ordered (rows_start o))
+        in
         record {
-          are = subst AreShelves (sym here) (shelves_at us are (rows_start o) made (rows_shelf (λ h. h) o (front (is_life o) rows) slots shelf));
+          are = have.are;
           rest = rest;
-          entries =
-              ap entries_of here ∙ rows_put (λ h. h) us are o (front (is_life o) rows) (lives_own o rows) slots shelf
-              ∙ ap (λ (es : Entries). fold with_held es (front (is_life o) rows))
-              (sym (ap (λ (k : Kept). entries_of (insert_entry place_order us (rows_start o) k)) same) ∙ kept_as_is us are.ordered (rows_start o));
+          entries = have.entries;
           comes =
               told
               ∙ sym (ap (λ w. not (is_some (flat w)) && list_any (λ h. is_some (born h.update.key)) (front (is_life o) rows)) (found_in us are (place_of (RowOf o class_attr)) refl slots found));

@@ -1,4 +1,4 @@
--- What becomes of the slots of shelves where those of an object are put in the place of all it had.
+-- What becomes of the slots of shelves where the rows of an object are put, one after the other, or in the place of all it had.
 use Rattle.std.proofs.Common.{◌≡◌, ℕ, ◌+◌, ◌<◌, length, get_or, take, fold, List, [], ◌∷◌, ◌++◌, Bool, true, false, cond, not, Option, Some, None, refl, sym, ap, ◌∙◌, subst}
 use Rattle.std.specs.List.{list_all}
 use Rattle.std.specs.List.Sorted.{IsStrictlySortedBy}
@@ -20,27 +20,18 @@ use Rattle.adr_model.proofs.Keys.{objects_tell}
 use Rattle.adr_update.proofs.Slots.{later_none, none_below as none_under}
 use Rattle.adr_shelves.specs.declared.place.Place.{Place}
 use Rattle.adr_shelves.specs.Place.{is_of_unit, is_proper, place_of, place_order, rows_start, seat_at}
-use Rattle.adr_shelves.specs.Shelf.{with_own, with_own_held}
-use Rattle.adr_shelves.specs.Shelves.{AreAllShelves, AreShelves, IsShelf, entries_of, held_at, shelf_entries, with_held, with_update, without_unit}
-use Rattle.adr_shelves.proofs.Places.{places_total, proper_place}
+use Rattle.adr_shelves.specs.Shelf.{with_own}
+use Rattle.adr_shelves.specs.Shelves.{AreAllShelves, AreShelves, IsShelf, entries_of, held_at, shelf_entries, with_update, without_unit}
+use Rattle.adr_shelves.proofs.Places.{exact_places, places_total, proper_place}
 use Rattle.adr_shelves.proofs.Entries.{Entries}
 use Rattle.adr_shelves.proofs.Shelved.{Kept, Shelved, shelves_rest}
+use Rattle.adr_shelves.proofs.ShelvedFrees.{found_in}
 use Rattle.adr_shelves.proofs.ShelvedParts.{of_shelf, shelf_passing}
-use Rattle.adr_shelves.proofs.ShelvedWrites.{bare_shelf, kept_at, put_at, shelf_put, shelves_at, sorted_put}
+use Rattle.adr_shelves.proofs.ShelvedWrites.{HaveNow, bare_shelf, lookup_put, put_at, shelves_at, sorted_put}
 
--- ---- what is put at a key is found there, and put again it is the last that stays
+-- ---- put again at a key, it is the last that stays
 
 module _ {K X : Type 0} (order : K → K → Ordering) (total : IsTotalOrder order) (k : K) (v : X) where
-  put_found : (es : List (K × X)) → lookup (is_at (order k)) (insert_entry order es k v) ≡ Some v
-  put_found [] = ap (λ o. cond (is_eq o) (Some v) None) (tied_itself total k)
-  put_found (e ∷ es) = by (order k e.0) refl (put_found es)
-    where
-      by : (o : Ordering) → order k e.0 ≡ o → lookup (is_at (order k)) (insert_entry order es k v) ≡ Some v
-          → lookup (is_at (order k)) (match_ordering o ((k, v) ∷ e ∷ es) ((e.0, v) ∷ es) (e ∷ insert_entry order es k v)) ≡ Some v
-      by Less at later = ap (λ o. cond (is_eq o) (Some v) (lookup (is_at (order k)) (e ∷ es))) (tied_itself total k)
-      by Equal at later = ap (λ o. cond (is_eq o) (Some v) (lookup (is_at (order k)) es)) at
-      by Greater at later = ap (λ o. cond (is_eq o) (Some e.1) (lookup (is_at (order k)) (insert_entry order es k v))) at ∙ later
-
   put_over : (w : X) (es : List (K × X)) → insert_entry order (insert_entry order es k v) k w ≡ insert_entry order es k w
   put_over w [] = ap (λ o. match_ordering o ((k, w) ∷ (k, v) ∷ []) ((k, w) ∷ []) ((k, v) ∷ (k, w) ∷ [])) (tied_itself total k)
   put_over w (e ∷ es) = by (order k e.0) refl (put_over w es)
@@ -100,77 +91,85 @@ bare_put (u ∷ us) are seat = by (place_order seat u.0) refl (bare_put us (shel
 
 -- ---- the rows of an object are put, one after the other
 
+-- slots with what is said of the one at a key in its place
+abbrev put_by : {K : Type 0} → (K → K → Ordering) → List (K × Option Held) → K → (Option (Option Held) → Option Held) → List (K × Option Held)
+put_by order es k what = insert_entry order es k (what (lookup (is_at (order k)) es))
+
 -- one more slot in the shelf at a seat is one more among all slots
-one_more : (us : Shelved) → AreShelves us → (p : Place) → is_proper p ≡ true → (slots : Kept) → IsShelf (seat_at p) slots → (v : Option Held)
-    → entries_of (insert_entry place_order us (seat_at p) (insert_entry nat_cmp slots p.attr v)) ≡ insert_entry place_order (entries_of (insert_entry place_order us (seat_at p) slots)) p v
-one_more us are p proper slots shelf v =
+one_more : (us : Shelved) → AreShelves us → (p : Place) → is_proper p ≡ true → (slots : Kept) → IsShelf (seat_at p) slots → (what : Option (Option Held) → Option Held)
+    → entries_of (insert_entry place_order us (seat_at p) (put_by nat_cmp slots p.attr what)) ≡ put_by place_order (entries_of (insert_entry place_order us (seat_at p) slots)) p what
+one_more us are p proper slots shelf what =
     let put : Shelved = insert_entry place_order us (seat_at p) slots in
     let puts : AreShelves put = shelves_at us are (seat_at p) slots shelf in
-    let there : kept_at put (seat_at p) ≡ slots = ap (λ (o : Option Kept). unwrap_or o []) (put_found place_order places_total (seat_at p) slots us) in
+    let v : Option Held = what (lookup (is_at (nat_cmp p.attr)) slots) in
+    let there : lookup (is_at (place_order (seat_at p))) put ≡ Some slots =
+    lookup_put place_order places_total exact_places (seat_at p) slots (seat_at p) us
+    ∙ ap (λ o. cond (is_eq o) (Some slots) (lookup (is_at (place_order (seat_at p))) us)) (tied_itself places_total (seat_at p))
+    in
     sym (ap (λ (vs : Shelved). entries_of vs) (put_over place_order places_total (seat_at p) slots (insert_entry nat_cmp slots p.attr v) us))
-    ∙ sym (ap (λ (k : Kept). entries_of (insert_entry place_order put (seat_at p) (insert_entry nat_cmp k p.attr v))) there)
+    ∙ sym (ap (λ (o : Option Kept). entries_of (insert_entry place_order put (seat_at p) (insert_entry nat_cmp (unwrap_or o []) p.attr v))) there)
     ∙ put_at put puts.ordered puts.each p proper v
+    ∙ sym (ap (λ o. insert_entry place_order (entries_of put) p (what o)) (found_in put puts p proper slots there))
 
 -- the rows of an object stand at its seat
 pub row_seat : (o : Oid) (k : Key) → is_row_of o k ≡ true → seat_at (place_of k) ≡ rows_start o
 row_seat o (RowOf p a) own = ap rows_start (objects_tell p o own)
 row_seat o (LinkOf l) own = cc
 
--- a shelf of an object stays one with one more row
-object_put : (o : Oid) (slots : Kept) → IsShelf (rows_start o) slots → (h : Held) → IsShelf (rows_start o) (with_own_held slots h)
-object_put o slots shelf h = shelf_put (rows_start o) slots shelf (place_of h.update.key).attr (Some h) (λ link. let wrong : false ≡ true = link in cc)
+-- of each, the key of its row, and what is put for it, by what is there
+module _ {A : Type 0} (key : A → Key) (what : A → Option (Option Held) → Option Held) where
+  abbrev own_put : Kept → A → Kept
+  own_put slots x = put_by nat_cmp slots (place_of (key x)).attr (what x)
 
--- rows, or what rows are made of
-module _ {A : Type 0} (row : A → Held) where
-  pub rows_shelf : (o : Oid) (xs : List A) (slots : Kept) → IsShelf (rows_start o) slots → IsShelf (rows_start o) (fold (λ s x. with_own_held s (row x)) slots xs)
-  rows_shelf o [] slots shelf = shelf
-  rows_shelf o (x ∷ xs) slots shelf = rows_shelf o xs (with_own_held slots (row x)) (object_put o slots shelf (row x))
+  abbrev put : Entries → A → Entries
+  put es x = put_by place_order es (place_of (key x)) (what x)
 
-  pub rows_put : (us : Shelved) → AreShelves us → (o : Oid) (xs : List A) → list_all (λ x. is_row_of o (row x).update.key) xs ≡ true → (slots : Kept) → IsShelf (rows_start o) slots
-      → entries_of (insert_entry place_order us (rows_start o) (fold (λ s x. with_own_held s (row x)) slots xs))
-      ≡ fold (λ es x. with_held es (row x)) (entries_of (insert_entry place_order us (rows_start o) slots)) xs
+  rise_on : (xs : List A) (slots : Kept) → IsStrictlySortedBy nat_cmp (keys_of slots) → IsStrictlySortedBy nat_cmp (keys_of (fold own_put slots xs))
+  rise_on [] slots rising = rising
+  rise_on (x ∷ xs) slots rising =
+      let attr = (place_of (key x)).attr in
+      rise_on xs (own_put slots x) (sorted_put nat_cmp attr (what x (lookup (is_at (nat_cmp attr)) slots)) nat_cmp_total slots rising)
+
+  pub rows_rise : (xs : List A) → IsStrictlySortedBy nat_cmp (keys_of (fold own_put [] xs))
+  unfolding IsStrictlySortedBy
+  rows_rise xs = rise_on xs [] tt
+
+  -- a shelf of an object stays one
+  rows_shelf : (o : Oid) (xs : List A) (slots : Kept) → IsShelf (rows_start o) slots → IsShelf (rows_start o) (fold own_put slots xs)
+  rows_shelf o xs slots shelf = record { seated = refl; rising = rise_on xs slots shelf.rising; own = λ link. let wrong : false ≡ true = link in cc }
+
+  rows_put : (us : Shelved) → AreShelves us → (o : Oid) (xs : List A) → list_all (λ x. is_row_of o (key x)) xs ≡ true → (slots : Kept) → IsShelf (rows_start o) slots
+      → entries_of (insert_entry place_order us (rows_start o) (fold own_put slots xs)) ≡ fold put (entries_of (insert_entry place_order us (rows_start o) slots)) xs
   rows_put us are o [] own slots shelf = refl
   rows_put us are o (x ∷ xs) own slots shelf =
-      let both = both_true (is_row_of o (row x).update.key) (list_all (λ x. is_row_of o (row x).update.key) xs) own in
-      let here : seat_at (place_of (row x).update.key) ≡ rows_start o = row_seat o (row x).update.key both.0 in
-      rows_put us are o xs both.1 (with_own_held slots (row x)) (object_put o slots shelf (row x))
-      ∙ ap (λ (es : Entries). fold (λ es x. with_held es (row x)) es xs)
-      (subst (λ (s : Place). entries_of (insert_entry place_order us s (with_own_held slots (row x))) ≡ with_held (entries_of (insert_entry place_order us s slots)) (row x))
+      let both = both_true (is_row_of o (key x)) (list_all (λ x. is_row_of o (key x)) xs) own in
+      let here : seat_at (place_of (key x)) ≡ rows_start o = row_seat o (key x) both.0 in
+      rows_put us are o xs both.1 (own_put slots x) (rows_shelf o (x ∷ []) slots shelf)
+      ∙ ap (λ (es : Entries). fold put es xs)
+      (subst (λ (s : Place). entries_of (insert_entry place_order us s (own_put slots x)) ≡ put (entries_of (insert_entry place_order us s slots)) x)
       here
-      (one_more us are (place_of (row x).update.key) (proper_place (row x).update.key) slots (subst (λ (s : Place). IsShelf s slots) (sym here) shelf) (Some (row x))))
+      (one_more us are (place_of (key x)) (proper_place (key x)) slots (subst (λ (s : Place). IsShelf s slots) (sym here) shelf) (what x)))
 
--- ---- copies of rows
+  -- the shelf of an object, with these put, among the others
+  pub rows_have : (us : Shelved) → AreShelves us → (o : Oid) (xs : List A) → list_all (λ x. is_row_of o (key x)) xs ≡ true → (slots : Kept) → IsShelf (rows_start o) slots
+      → (new : Shelved) → new ≡ insert_entry place_order us (rows_start o) (fold own_put slots xs) → (es : Entries) → entries_of (insert_entry place_order us (rows_start o) slots) ≡ es
+      → HaveNow new (fold put es xs)
+  rows_have us are o xs own slots shelf new is es before = record {
+    are = subst AreShelves (sym is) (shelves_at us are (rows_start o) (fold own_put slots xs) (rows_shelf o xs slots shelf));
+    entries = ap entries_of is ∙ rows_put us are o xs own slots shelf ∙ ap (λ (es : Entries). fold put es xs) before;
+  }
 
--- their attributes rise
-copies_rise_on : (local : ℕ) (rows : List Update) (slots : Kept) → IsStrictlySortedBy nat_cmp (keys_of slots) → IsStrictlySortedBy nat_cmp (keys_of (fold (with_own local) slots rows))
-copies_rise_on local [] slots rising = rising
-copies_rise_on local (u ∷ us) slots rising =
-    copies_rise_on local us (with_own local slots u) (sorted_put nat_cmp (place_of u.key).attr (Some (held_at local u)) nat_cmp_total slots rising)
+-- one more is put after those so far
+pub put_more : {A : Type 0} (put : Kept → A → Kept) (xs : List A) (i : ℕ) (x : A) → i < length xs → x ≡ get_or xs i x → (slots new : Kept) → slots ≡ fold put [] (take i xs)
+    → new ≡ put slots x → new ≡ fold put [] (take (i + 1) xs)
+put_more put xs i x in_range at slots new so_far is =
+    is ∙ ap (λ (s : Kept). put s x) so_far ∙ ap (put (fold put [] (take i xs))) at ∙ sym (fold_more put [] xs i x in_range)
 
-pub copies_rise : (local : ℕ) (rows : List Update) → IsStrictlySortedBy nat_cmp (keys_of (fold (with_own local) [] rows))
-unfolding IsStrictlySortedBy
-copies_rise local rows = copies_rise_on local rows [] tt
-
--- and one more is put after those so far
-pub copied_more : (local : ℕ) (rows : List Update) (i : ℕ) (row : Update) → i < length rows → row ≡ get_or rows i row → (slots new : Kept) → slots ≡ fold (with_own local) [] (take i rows)
-    → new ≡ with_own local slots row → new ≡ fold (with_own local) [] (take (i + 1) rows)
-copied_more local rows i row in_range at slots new so_far is =
-    is ∙ ap (λ (s : Kept). with_own local s row) so_far ∙ ap (with_own local (fold (with_own local) [] (take i rows))) at ∙ sym (fold_more (with_own local) [] rows i row in_range)
-
--- ---- the shelves after
-
--- the shelf of an object is put, with its rows in the place of all that it had
-pub record AreReplaced (us new : Shelved) (o : Oid) (local : ℕ) (rows : List Update) : Type 0 where
-  pub are : AreShelves new
-  pub entries : entries_of new ≡ fold (with_update local) (without_unit (rows_start o) (entries_of us)) rows
-
-pub new_replaced : (us new : Shelved) → AreShelves us → (o : Oid) (local : ℕ) (rows : List Update) → list_all (λ u. is_row_of o u.key) rows ≡ true
-    → (seat : Place) → seat ≡ rows_start o → (slots : Kept) → slots ≡ fold (with_own local) [] rows → new ≡ insert_entry place_order us seat slots → AreReplaced us new o local rows
-new_replaced us new are o local rows own seat at slots copied is =
-    let made : Kept = fold (with_own local) [] rows in
-    let here : new ≡ insert_entry place_order us (rows_start o) made = is ∙ ap (λ s. insert_entry place_order us s slots) at ∙ ap (insert_entry place_order us (rows_start o)) copied in
-    let none : IsShelf (rows_start o) [] = bare_shelf (rows_start o) refl in
-    record {
-      are = subst AreShelves (sym here) (shelves_at us are (rows_start o) made (rows_shelf (held_at local) o rows [] none));
-      entries = ap entries_of here ∙ rows_put (held_at local) us are o rows own [] none ∙ ap (λ (es : Entries). fold (with_update local) es rows) (bare_put us are (rows_start o));
-    }
+-- the shelf of an object is put, with copies of its rows in the place of all that it had
+pub new_replaced : (us new : Shelved) → AreShelves us → (now : Entries) → entries_of us ≡ now → (o : Oid) (local : ℕ) (rows : List Update) → list_all (λ u. is_row_of o u.key) rows ≡ true
+    → (seat : Place) → seat ≡ rows_start o → (slots : Kept) → slots ≡ fold (with_own local) [] rows → new ≡ insert_entry place_order us seat slots
+    → HaveNow new (fold (with_update local) (without_unit (rows_start o) now) rows)
+new_replaced us new are now view o local rows own seat at slots copied is =
+    rows_have (λ u. u.key) (λ u w. Some (held_at local u)) us are o rows own [] (bare_shelf (rows_start o) refl)
+    new (is ∙ ap (λ s. insert_entry place_order us s slots) at ∙ ap (insert_entry place_order us (rows_start o)) copied)
+    (without_unit (rows_start o) now) (bare_put us are (rows_start o) ∙ ap (without_unit (rows_start o)) view)

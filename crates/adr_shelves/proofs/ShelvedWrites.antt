@@ -14,6 +14,7 @@ use Rattle.std.specs.BTreeMap.{BTreeMap, insert_entry, is_at}
 use Rattle.std.specs.Cmp.{IsTotalOrder}
 use Rattle.std.proofs.lemmas.Cmp.{nat_cmp_total, tied_itself}
 use Rattle.std.proofs.lemmas.Map.Keys.{sorted_head, sorted_tail}
+use Rattle.std.proofs.lemmas.Map.Lookups.{CmpEqualImpliesEq}
 use Rattle.adr_model.proofs.Keys.{equal_order}
 use Rattle.adr_model.specs.Store.{Held}
 use Rattle.adr_update.proofs.Slots.{none_below as none_under}
@@ -50,6 +51,35 @@ module _ {K X : Type 0} (order : K → K → Ordering) (k : K) (v : X) where
       by Less at later = ((at, below_all total e.0 (keys_of es) at sorted.0), sorted)
       by Equal at later = sorted
       by Greater at later = (keys_put (λ r. order e.0 r ≡ Less) es sorted.0 (total.antisymm e.0 k ∙ ap ordering_reverse at), later)
+
+-- what is found after one was put
+module _ {K X : Type 0} (order : K → K → Ordering) (total : IsTotalOrder order) (exact : CmpEqualImpliesEq order) (k : K) (v : X) where
+  pub lookup_put : (q : K) (es : List (K × X)) → lookup (is_at (order q)) (insert_entry order es k v) ≡ cond (is_at (order q) k) (Some v) (lookup (is_at (order q)) es)
+  lookup_put q [] = refl
+  lookup_put q (e ∷ es) = by (order k e.0) refl (lookup_put q es)
+    where
+      twice : (b : Bool) (w : Option X) → cond b (Some v) w ≡ cond b (Some v) (cond b (Some e.1) w)
+      twice true w = refl
+      twice false w = refl
+
+      apart : (b d : Bool) → is_at (order q) e.0 ≡ b → is_at (order q) k ≡ d → order k e.0 ≡ Greater → (w : Option X)
+          → cond b (Some e.1) (cond d (Some v) w) ≡ cond d (Some v) (cond b (Some e.1) w)
+      apart true true at here above w =
+          let same : k ≡ e.0 = sym (exact q k (equal_order (order q k) here)) ∙ exact q e.0 (equal_order (order q e.0) at) in
+          let wrong : Equal ≡ Greater = sym (tied_itself total e.0) ∙ sym (ap (λ x. order x e.0) same) ∙ above in cc
+      apart true false at here above w = refl
+      apart false true at here above w = refl
+      apart false false at here above w = refl
+
+      by : (o : Ordering) → order k e.0 ≡ o → lookup (is_at (order q)) (insert_entry order es k v) ≡ cond (is_at (order q) k) (Some v) (lookup (is_at (order q)) es)
+          → lookup (is_at (order q)) (match_ordering o ((k, v) ∷ e ∷ es) ((e.0, v) ∷ es) (e ∷ insert_entry order es k v)) ≡ cond (is_at (order q) k) (Some v) (lookup (is_at (order q)) (e ∷ es))
+      by Less at later = refl
+      by Equal at later =
+          twice (is_at (order q) e.0) (lookup (is_at (order q)) es)
+          ∙ ap (λ x. cond (is_at (order q) x) (Some v) (lookup (is_at (order q)) (e ∷ es))) (sym (exact k e.0 at))
+      by Greater at later =
+          ap (λ o. cond (is_at (order q) e.0) (Some e.1) o) later
+          ∙ apart (is_at (order q) e.0) (is_at (order q) k) refl refl at (lookup (is_at (order q)) es)
 
 -- a place below all comes first
 first : (es : Entries) (p : Place) (v : Option Held) → AllByRecursion (λ e. place_order p e.0 ≡ Less) es → insert_entry place_order es p v ≡ (p, v) ∷ es
@@ -136,7 +166,7 @@ shelf_at (u ∷ us) each s seated = by (is_at (place_order s) u.0) refl (shelf_a
     by true at later = subst (λ q. IsShelf q u.1) (sym (exact_places s u.0 (equal_order (place_order s u.0) at))) each.0
     by false at later = later
 
-pub shelf_put : (s : Place) (slots : Kept) → IsShelf s slots → (a : ℕ) (v : Option Held) → IsOwn s a → IsShelf s (insert_entry nat_cmp slots a v)
+shelf_put : (s : Place) (slots : Kept) → IsShelf s slots → (a : ℕ) (v : Option Held) → IsOwn s a → IsShelf s (insert_entry nat_cmp slots a v)
 shelf_put s slots shelf a v own = record {
   seated = shelf.seated;
   rising = sorted_put nat_cmp a v nat_cmp_total slots shelf.rising;
@@ -258,9 +288,17 @@ module _ (us : Shelved) (are : AreShelves us) (now : Entries) (view : entries_of
     same_then (Ok x) err = tt
     same_then (Err e) err = ap entries_of (at_seat slots err) ∙ ap (λ k. entries_of (insert_entry place_order us (seat_at p) k)) here ∙ kept_as_is us are.ordered (seat_at p) ∙ view
 
+-- shelves with these slots
+pub record HaveNow (vs : Shelved) (es : Entries) : Type 0 where
+  pub are : AreShelves vs
+  pub entries : entries_of vs ≡ es
+
 -- the same of an equal map
 pub shelves_along : (m n : BTreeMap Place Kept) → n ≡ m → AreShelves m.entries → AreShelves n.entries
 shelves_along m n e are = subst (λ (k : BTreeMap Place Kept). AreShelves k.entries) (sym e) are
+
+pub view_along : (es : Entries) (m n : BTreeMap Place Kept) → n ≡ m → entries_of m.entries ≡ es → entries_of n.entries ≡ es
+view_along es m n e h = ap (λ (k : BTreeMap Place Kept). entries_of k.entries) e ∙ h
 
 pub entries_along : {T E : Type 0} (r : Result T E) (es : Entries) (m n : BTreeMap Place Kept) → n ≡ m → OnOk r (entries_of m.entries ≡ es) → OnOk r (entries_of n.entries ≡ es)
 entries_along r es m n e h = subst (λ (k : BTreeMap Place Kept). OnOk r (entries_of k.entries ≡ es)) (sym e) h

@@ -13,13 +13,19 @@ use Rattle.adr_shelves.specs.Shelves.{held_at}
 abbrev pub Slots : Type 0
 Slots = List (ℕ × Option Held)
 
--- slots with an update in that of its attribute, under a local USN
-abbrev pub with_own : ℕ → Slots → Update → Slots
-with_own local slots u = insert_entry nat_cmp slots (place_of u.key).attr (Some (held_at local u))
-
 -- slots with a row in that of its attribute
 abbrev pub with_own_held : Slots → Held → Slots
 with_own_held slots h = insert_entry nat_cmp slots (place_of h.update.key).attr (Some h)
+
+-- slots with an update in that of its attribute, under a local USN
+abbrev pub with_own : ℕ → Slots → Update → Slots
+with_own local slots u = with_own_held slots (held_at local u)
+
+-- slots with one for the attribute of a row, which keeps what is in it
+abbrev pub with_own_slot : Slots → Held → Slots
+with_own_slot slots h =
+    let attr = (place_of h.update.key).attr in
+    insert_entry nat_cmp slots attr (unwrap_or (lookup (is_at (nat_cmp attr)) slots) None)
 
 -- a row has a slot
 abbrev pub HasOwn : Slots → Held → Type 0

@@ -2,12 +2,12 @@
 use Rattle.std.specs.Prelude.{◌≡◌, ℕ, ◌+◌, List, [], ◌∷◌, ◌++◌, Bool, true, false, cond, not, ◌&&◌, ◌||◌, Option, Some, None, is_some, nat_le, nat_lt, filter, map}
 use Rattle.std.specs.List.{AllByRecursion}
 use Rattle.std.specs.List.Sorted.{IsStrictlySortedBy}
-use Rattle.std.specs.Map.{keys_of}
+use Rattle.std.specs.Map.{keys_of, lookup}
 use Rattle.std.specs.Ordering.{nat_cmp}
 use Rattle.std.specs.declared.ops.Bound.{Bound}
 use Rattle.std.specs.declared.ops.Bound.TheVariants.{Included, Excluded}
-use Rattle.std.specs.BTreeMap.{insert_entry}
-use Rattle.std.specs.Option.{is_none}
+use Rattle.std.specs.BTreeMap.{insert_entry, is_at}
+use Rattle.std.specs.Option.{is_none, unwrap_or}
 use Rattle.adr_values.specs.declared.stamp.Oid.{Oid}
 use Rattle.adr_model.specs.Change.{killed_by}
 use Rattle.adr_model.specs.Store.{Held, is_row_of}
@@ -78,17 +78,27 @@ without_unit seat es = filter (λ e. not (is_of_unit seat e.0)) es
 abbrev pub held_at : ℕ → Update → Held
 held_at local u = record { update = u; local = local }
 
--- slots with an update in that of its key
-abbrev pub with_update : ℕ → List (Place × Option Held) → Update → List (Place × Option Held)
-with_update local es u = insert_entry place_order es (place_of u.key) (Some (held_at local u))
-
 -- slots with a row in that of its key
 abbrev pub with_held : List (Place × Option Held) → Held → List (Place × Option Held)
 with_held es h = insert_entry place_order es (place_of h.update.key) (Some h)
 
--- whether a row is one of an object, and no death
+-- slots with an update in that of its key
+abbrev pub with_update : ℕ → List (Place × Option Held) → Update → List (Place × Option Held)
+with_update local es u = with_held es (held_at local u)
+
+-- slots with one for the key of a row, which keeps what is in it
+abbrev pub with_slot : List (Place × Option Held) → Held → List (Place × Option Held)
+with_slot es h =
+    let place = place_of h.update.key in
+    insert_entry place_order es place (unwrap_or (lookup (is_at (place_order place)) es) None)
+
+-- whether an update is of a row of an object, and no death
+abbrev pub is_life_of : Oid → Update → Bool
+is_life_of o u = is_row_of o u.key && is_none (killed_by u.key)
+
+-- the same of a row that is held
 abbrev pub is_life : Oid → Held → Bool
-is_life o h = is_row_of o h.update.key && is_none (killed_by h.update.key)
+is_life o h = is_life_of o h.update
 
 -- the items at the front that pass, and the others
 abbrev pub front : {X : Type 0} → (X → Bool) → List X → List X

@@ -17,5 +17,5 @@ mod shelves;
 pub use adr_update::NoMemory;
 pub use place::{Place, seat_at};
 pub use run::Run;
-pub use shelf::Slot;
+pub use shelf::{Slot, is_life};
 pub use shelves::Shelves;

@@ -11,7 +11,7 @@ ghost use Rattle.adr_model.specs.Live.{born};
 ghost use Rattle.adr_model.specs.Member.{Each};
 ghost use Rattle.adr_model.specs.Update.{class_attr};
 ghost use Rattle.adr_shelves.specs.Shelves.{behind_front, emptied, flat, front, is_life};
-ghost use Rattle.adr_shelves.specs.Shelf.{HasOwn, IsGapFor, IsPlaceOf, with_own, with_own_held};
+ghost use Rattle.adr_shelves.specs.Shelf.{HasOwn, IsGapFor, IsPlaceOf, with_own, with_own_held, with_own_slot};
 
 use crate::NoMemory;
 use crate::place::attr_of;
@@ -88,6 +88,17 @@ impl Shelf {
         Ok(shelf)
     }
 
+    /// Empty slots for rows of one unit.
+    pub fn of_slots(alloc: Global, rows: &[Held]) -> Result<Shelf, NoMemory>
+        ensures { IfOk result (λ shelf. shelf ≡ fold with_own_slot [] rows.now) }
+    {
+        let mut shelf = Shelf::new(alloc);
+        for row in rows {
+            let _ = shelf.make(attr_of(&row.key()), rows.len())?;
+        }
+        Ok(shelf)
+    }
+
     pub fn slots(&self) -> &[Slot]
         ensures { result.now ≡ self.now }
     {
@@ -134,14 +145,7 @@ impl Shelf {
         ensures err { OnErr result (self.new ≡ self.old) }
     {
         match place_of(self.slots.as_slice(), attr) {
-            Ok(place) => {
-                let was = self.slots[place].row.is_some();
-                self.slots[place] = Slot {
-                    attr,
-                    row: Some(row),
-                };
-                Ok(was)
-            }
+            Ok(place) => Ok(self.replace(place, attr, row)),
             Err(place) => {
                 self.make_room(room)?;
                 self.slots.insert(
@@ -156,6 +160,20 @@ impl Shelf {
         }
     }
 
+    /// Puts a row into the slot of an attribute, which stands at a place, and tells whether a row was there.
+    fn replace(&mut self, place: usize, attr: u16, row: Held) -> bool
+        requires { IsPlaceOf self.old attr place }
+        ensures was { result ≡ is_some (flat (lookup (is_at (nat_cmp attr)) self.old)) }
+        ensures entries { self.new ≡ insert_entry nat_cmp self.old attr (Some row) }
+    {
+        let was = self.slots[place].row.is_some();
+        self.slots[place] = Slot {
+            attr,
+            row: Some(row),
+        };
+        was
+    }
+
     /// Puts a row into its slot, for which there is one, and tells whether a row was there.
     fn write(&mut self, attr: u16, row: Held) -> bool
         requires rising { IsStrictlySortedBy nat_cmp (keys_of self.old) }
@@ -164,14 +182,7 @@ impl Shelf {
         ensures entries { self.new ≡ insert_entry nat_cmp self.old attr (Some row) }
     {
         match place_of(self.slots.as_slice(), attr) {
-            Ok(place) => {
-                let was = self.slots[place].row.is_some();
-                self.slots[place] = Slot {
-                    attr,
-                    row: Some(row),
-                };
-                was
-            }
+            Ok(place) => self.replace(place, attr, row),
             Err(_) => unreachable!(),
         }
     }
@@ -286,7 +297,7 @@ fn local_in(row: &Option<Held>) -> Option<u64>
 }
 
 /// Whether a row is an object's, and no death.
-fn is_life(object: &Oid, row: &Held) -> bool
+pub fn is_life(object: &Oid, row: &Held) -> bool
     ensures { result ≡ is_life object.now row.now }
 {
     let key = row.key();

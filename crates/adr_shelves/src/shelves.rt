@@ -1,6 +1,6 @@
 //! Shelves: the slots of a unit stand side by side, those of an object by their attributes, and a link has one.
 
-ghost use Rattle.std.specs.Prelude.{◌≡◌, ◌≤◌, ◌&&◌, [], IfOk, IsSome, OnOk, OnErr, not, None, Some, filter, fold, is_some, true};
+ghost use Rattle.std.specs.Prelude.{◌≡◌, ◌≤◌, ◌&&◌, ◌↔◌, [], IfOk, IsSome, IsTrue, OnOk, OnErr, false, not, None, Some, filter, fold, is_some, true};
 ghost use Rattle.std.specs.Option.{option_copied, option_map, unwrap_or};
 ghost use Rattle.std.specs.List.{list_all, list_any};
 ghost use Rattle.std.specs.List.Sorted.{IsStrictlySortedBy};
@@ -13,7 +13,7 @@ ghost use Rattle.adr_model.specs.Member.{Each};
 ghost use Rattle.adr_model.specs.Store.{is_row_of};
 ghost use Rattle.adr_model.specs.Update.{RowOf, class_attr};
 ghost use Rattle.adr_shelves.specs.Place.{is_in_run, is_of_class, is_of_link, is_of_unit, is_proper, place_of, place_order, rows_start, values_start};
-ghost use Rattle.adr_shelves.specs.Shelves.{behind_front, emptied, flat, freed, front, is_life, shelf_entries, tally, with_held, with_update, without_unit};
+ghost use Rattle.adr_shelves.specs.Shelves.{behind_front, emptied, flat, freed, front, is_life, shelf_entries, tally, with_held, with_slot, with_update, without_unit};
 
 use crate::NoMemory;
 use crate::place::{Place, seat_at};
@@ -112,6 +112,24 @@ impl Shelves {
         let seat = seat_at(&place);
         let shelf = self.map.entry(seat)?.or_insert(Shelf::new(self.alloc));
         shelf.make(place.attr, room_of(&place))
+    }
+
+    /// Makes empty slots for rows of an object that has none, by one search, and tells whether it did: where the object has
+    /// slots, nothing changes.
+    pub fn make_object(&mut self, object: &Oid, rows: &[Held]) -> Result<bool, NoMemory>
+        requires { list_all (λ h. is_row_of object.now h.update.key) rows.now ≡ true }
+        ensures told { IfOk result (λ made. IsTrue made ↔ (filter (λ e. is_of_unit (rows_start object.now) e.0) self.old ≡ [])) }
+        ensures made { IfOk result (λ made. made ≡ true → self.new ≡ fold with_slot self.old rows.now) }
+        ensures same { IfOk result (λ made. made ≡ false → self.new ≡ self.old) }
+        ensures err { OnErr result (self.new ≡ self.old) }
+    {
+        let seat = Place::before_rows(object);
+        let shelf = self.map.entry(seat)?.or_insert(Shelf::new(self.alloc));
+        if !shelf.is_empty() {
+            return Ok(false);
+        }
+        *shelf = Shelf::of_slots(self.alloc, rows)?;
+        Ok(true)
     }
 
     /// Puts a row into a slot, which is made if there is none, and tells whether a row was there.

@@ -257,17 +257,21 @@ life_parts o h is = let t = and_parts (is_row_of o h.update.key) (is_none (kille
     by None none = refl
     by (Some p) none = cc
 
+-- a row of the object that kills nothing is one
+pub is_one : (o : Oid) (h : Held) (a : ℕ) → h.update.key ≡ RowOf o a → killed_by h.update.key ≡ None → is_life o h ≡ true
+is_one o h a own none =
+    ap (λ r. is_row_of o h.update.key && is_none r) none
+    ∙ ap (λ b. b && true) (ap (is_row_of o) own ∙ ap is_eq (tied_itself objects_total o))
+
 -- those at the front are its rows
 pub front_lives : (o : Oid) (hs : List Held) → Each (λ h. is_row_of o h.update.key ≡ true) (front (is_life o) hs)
 front_lives o hs h m = (life_parts o h (front_passes (is_life o) hs h m)).0
 
 -- and some are where the first row is one
-pub life_first : (hs : List Held) (h : Held) (o : Oid) (a : ℕ) → 0 < length hs → h ≡ get_or hs 0 h → h.update.key ≡ RowOf o a → killed_by h.update.key ≡ None → front (is_life o) hs ≡ [] → ⊥
-life_first [] h o a some first own none bare = omega (arith, some)
-life_first (x ∷ xs) h o a some first own none bare =
-    let row : is_row_of o h.update.key ≡ true = ap (is_row_of o) own ∙ ap is_eq (tied_itself objects_total o) in
-    let life : is_life o x ≡ true = ap (is_life o) (sym first) ∙ ap (λ r. is_row_of o h.update.key && is_none r) none ∙ ap (λ b. b && true) row in
-    let wrong : x ∷ front (is_life o) xs ≡ [] = sym (ap (λ b. cond b (x ∷ front (is_life o) xs) []) life) ∙ bare in cc
+pub life_first : (o : Oid) (hs : List Held) (h : Held) → 0 < length hs → h ≡ get_or hs 0 h → is_life o h ≡ true → front (is_life o) hs ≡ [] → ⊥
+life_first o [] h some first life bare = omega (arith, some)
+life_first o (x ∷ xs) h some first life bare =
+    let wrong : x ∷ front (is_life o) xs ≡ [] = sym (ap (λ b. cond b (x ∷ front (is_life o) xs) []) (ap (is_life o) (sym first) ∙ life)) ∙ bare in cc
 
 -- they take no other rows with them
 pub lives_put : (o : Oid) (hs rows : List Held) → Each (λ h. is_life o h ≡ true) hs → fold with_row rows hs ≡ fold put rows hs

@@ -14,6 +14,7 @@ pub mod Objects
 pub mod OneList
 pub mod Queries
 pub mod Reading
+pub mod Reserved
 pub mod Rooms
 pub mod Runs
 pub mod Seen

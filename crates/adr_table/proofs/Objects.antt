@@ -22,12 +22,11 @@ use Rattle.adr_model.specs.Store.{Held, holds_object, is_row_of, row_held, with_
 use Rattle.adr_model.specs.Update.{Key, RowOf, LinkOf, Update, class_attr, same_unit, unit_of}
 use Rattle.adr_shelves.specs.declared.place.Place.{Place}
 use Rattle.adr_shelves.specs.Place.{is_of_class, is_of_link, is_of_unit, place_of, place_order, rows_start}
-use Rattle.adr_shelves.specs.Shelves.{flat, freed, held_at, is_life, one_more_if, tally, with_held, with_update, without_unit}
+use Rattle.adr_shelves.specs.Shelves.{flat, freed, held_at, is_life, is_life_of, one_more_if, tally, with_held, with_update, without_unit}
 use Rattle.adr_shelves.proofs.Entries.{AreSorted, Entries}
 use Rattle.adr_table.specs.declared.slots.Slots.{Slots}
 use Rattle.adr_table.specs.Slots.{AreAtHome, IsTidy, rows_seen, seen}
 use Rattle.adr_table.specs.Deaths.{AreListed, IsListed}
-use Rattle.adr_table.specs.Table.{is_life_of}
 use Rattle.adr_table.proofs.Fills.{AreFilled, filled, has_class, life_parts, lives_listed as held_listed, lives_put as held_put}
 use Rattle.adr_table.proofs.Hinted.{is_held}
 use Rattle.adr_table.proofs.LocalsSeats.{same_unit_is, seat_is}

@@ -1,12 +1,12 @@
 -- Room for rows stays, and so do hints.
-use Rattle.std.proofs.Common.{◌≡◌, ◌⊎◌, inl, inr, refl, sym, ap, ◌∙◌, subst, arith, ℕ, ◌+◌, ◌<◌, ◌≤◌, length, List, [], ◌∷◌, Bool, true, false, cond, ◌||◌, Option, Some, None, zero, suc, slice_index_or}
+use Rattle.std.proofs.Common.{◌≡◌, ◌⊎◌, inl, inr, refl, sym, ap, ◌∙◌, subst, arith, ℕ, ◌+◌, ◌-◌, ◌<◌, ◌≤◌, length, take, drop, List, [], ◌∷◌, Bool, true, false, cond, ◌||◌, Option, Some, None, zero, suc, slice_index_or}
 use Rattle.std.specs.Prelude.{IsSome, is_some}
 use Rattle.std.specs.Map.{keys_of, lookup}
 use Rattle.std.specs.Option.{option_map}
 use Rattle.std.specs.BTreeMap.{is_at}
 use Rattle.std.specs.BTreeSet.{BTreeSet, contains}
 use Rattle.std.proofs.lemmas.Bool.{cases_lt}
-use Rattle.std.proofs.lemmas.List.{get_or_default}
+use Rattle.std.proofs.lemmas.List.{get_or-drop, get_or-take, get_or_default, length-take}
 use Rattle.adr_values.specs.declared.stamp.LinkKey.{LinkKey}
 use Rattle.adr_values.specs.declared.stamp.Oid.{Oid}
 use Rattle.adr_model.proofs.Keys.{equal_order}
@@ -154,31 +154,44 @@ kept_stripped old new back dead locals object kept tidy seen fewer = record {
 
 -- ---- room for several rows
 
-pub room_first : (t : Table) (h : Held) (hs : List Held) → HaveRoom t (h ∷ hs) → HasRoom t h
-room_first t h hs room = room 0 h (omega arith)
-
 pub room_later : (t s : Table) (h : Held) (hs : List Held) → HaveRoom t (h ∷ hs) → ((x : Held) → HasRoom t x → HasRoom s x) → HaveRoom s hs
 room_later t s h hs room more i d lt = more (slice_index_or hs i d) (room (suc i) d (omega (arith, lt)))
 
--- by index, or of each
-pub room_each : (t : Table) (rows : List Held) → HaveRoom t rows → Each (HasRoom t) rows
-room_each t [] room h m = absurd m
-room_each t (x ∷ xs) room h (inl e) = subst (HasRoom t) (sym e) (room_first t x xs room)
-room_each t (x ∷ xs) room h (inr m) = room_each t xs (room_later t t x xs room (λ y r. r)) h m
+-- something holds of the rows before an index
+abbrev pub HoldBefore : (Held → Type 0) → List Held → ℕ → Type 0
+HoldBefore P rows n = (i : ℕ) (d : Held) → i < n → P (slice_index_or rows i d)
 
-pub each_room : (t : Table) (rows : List Held) → Each (HasRoom t) rows → HaveRoom t rows
-each_room t [] each i d lt = absurd (omega (arith, lt))
-each_room t (x ∷ xs) each zero d lt = each x (inl refl)
-each_room t (x ∷ xs) each (suc i) d lt = each_room t xs (λ y m. each y (inr m)) i d (omega (arith, lt))
+-- of all by index, or of each
+pub each_before : (P : Held → Type 0) (rows : List Held) → HoldBefore P rows (length rows) → Each P rows
+each_before P [] before h m = absurd m
+each_before P (x ∷ xs) before h (inl e) = subst P (sym e) (before 0 x (omega arith))
+each_before P (x ∷ xs) before h (inr m) = each_before P xs (λ i d lt. before (suc i) d (omega (arith, lt))) h m
 
--- room for one row more
-pub room_next : (t s : Table) (rows : List Held) (n : ℕ) (x : Held) → n < length rows → x ≡ slice_index_or rows n x
-    → ((i : ℕ) (d : Held) → i < n → HasRoom t (slice_index_or rows i d)) → ((h : Held) → HasRoom t h → HasRoom s h) → HasRoom s x
-    → (i : ℕ) (d : Held) → i < n + 1 → HasRoom s (slice_index_or rows i d)
-room_next t s rows n x within is before more here i d lt = by (cases_lt i n)
+pub before_each : (P : Held → Type 0) (rows : List Held) → Each P rows → HoldBefore P rows (length rows)
+before_each P [] each i d lt = absurd (omega (arith, lt))
+before_each P (x ∷ xs) each zero d lt = each x (inl refl)
+before_each P (x ∷ xs) each (suc i) d lt = before_each P xs (λ y m. each y (inr m)) i d (omega (arith, lt))
+
+-- and of the first ones of the rows from there on
+pub span_before : (P Q : Held → Type 0) (rows rest : List Held) (n m : ℕ) → rest ≡ drop n rows → m ≤ length rest → HoldBefore P rows n → ((h : Held) → P h → Q h)
+    → HoldBefore Q (take m rest) (length (take m rest)) → HoldBefore Q rows (n + m)
+span_before P Q rows rest n m is within before more here i d lt = by (cases_lt i n)
   where
-    by : (i < n) ⊎ (n ≤ i) → HasRoom s (slice_index_or rows i d)
+    by : (i < n) ⊎ (n ≤ i) → Q (slice_index_or rows i d)
+    by (inl less) = more (slice_index_or rows i d) (before i d less)
+    by (inr le) =
+        let at : n + (i - n) ≡ i = omega (arith, le) in
+        let low : i - n < m = omega (arith, le, lt) in
+        let short : i - n < length (take m rest) = omega (arith, low, within, length-take m rest) in
+        subst Q (get_or-take m rest (i - n) d low ∙ ap (λ xs. slice_index_or xs (i - n) d) is ∙ get_or-drop n rows (i - n) d ∙ ap (λ k. slice_index_or rows k d) at) (here (i - n) d short)
+
+-- and of one row more
+pub next_before : (P Q : Held → Type 0) (rows : List Held) (n : ℕ) (x : Held) → n < length rows → x ≡ slice_index_or rows n x
+    → HoldBefore P rows n → ((h : Held) → P h → Q h) → Q x → HoldBefore Q rows (n + 1)
+next_before P Q rows n x within is before more here i d lt = by (cases_lt i n)
+  where
+    by : (i < n) ⊎ (n ≤ i) → Q (slice_index_or rows i d)
     by (inl less) = more (slice_index_or rows i d) (before i d less)
     by (inr le) =
         let at : n ≡ i = omega (arith, le, lt) in
-        subst (HasRoom s) (is ∙ get_or_default rows n x d within ∙ ap (λ k. slice_index_or rows k d) at) here
+        subst Q (is ∙ get_or_default rows n x d within ∙ ap (λ k. slice_index_or rows k d) at) here

@@ -1,10 +1,6 @@
 -- Tables: the rows that are seen, what keeps the slots and the hints together, and room for rows.
-use Rattle.std.specs.Prelude.{ℕ, ◌<◌, List, length, slice_index_or, Bool, ◌&&◌}
-use Rattle.std.specs.Option.{is_none}
-use Rattle.adr_values.specs.declared.stamp.Oid.{Oid}
-use Rattle.adr_model.specs.Change.{killed_by}
-use Rattle.adr_model.specs.Update.{Update}
-use Rattle.adr_model.specs.Store.{Held, is_row_of}
+use Rattle.std.specs.Prelude.{ℕ, ◌<◌, List, length, slice_index_or}
+use Rattle.adr_model.specs.Store.{Held}
 use Rattle.adr_table.specs.declared.table.Table.{Table}
 use Rattle.adr_shelves.specs.Place.{place_of}
 use Rattle.adr_table.specs.Slots.{HasSlot, IsTidy, rows_seen}
@@ -35,7 +31,3 @@ pub record HasRoom (t : Table) (h : Held) : Type 0 where
 
 abbrev pub HaveRoom : Table → List Held → Type 0
 HaveRoom t rows = (i : ℕ) (d : Held) → i < length rows → HasRoom t (slice_index_or rows i d)
-
--- whether an update is of a row of the object, and no death
-abbrev pub is_life_of : Oid → Update → Bool
-is_life_of o u = is_row_of o u.key && is_none (killed_by u.key)

@@ -4,6 +4,7 @@ ghost use Rattle.std.specs.Prelude.{◌≡◌, OnOk, IfOk, IfSome, IsTrue, Some,
 ghost use Rattle.std.specs.List.{list_any};
 ghost use Rattle.std.specs.BTreeMap.{is_at};
 ghost use Rattle.std.specs.BTreeSet.{contains};
+ghost use Rattle.adr_model.specs.Member.{Each};
 ghost use Rattle.adr_model.specs.Store.{Held as Row};
 ghost use Rattle.adr_update.specs.Sought.{IsNextLocal, units_at};
 ghost use Rattle.adr_shelves.specs.Place.{place_order, seat_at};
@@ -89,6 +90,19 @@ pub(crate) fn remember(
         Some(before) if has_hint(before, usn, &unit) => Ok(()),
         _ => insert(locals, usn, unit),
     }
+}
+
+/// Keeps the hints of rows.
+pub(crate) fn remember_all(locals: &mut BTreeSet<Local>, rows: &[Held]) -> Result<(), NoMemory>
+    ensures more { (h : Row) → IsLocated locals.old h → IsLocated locals.new h }
+    ensures ok { OnOk result (Each (IsLocated locals.new) rows.now) }
+{
+    let mut before = None;
+    for row in rows {
+        remember(locals, before, row)?;
+        before = Some(row);
+    }
+    Ok(())
 }
 
 fn insert(locals: &mut BTreeSet<Local>, usn: u64, unit: Place) -> Result<(), NoMemory>

@@ -1,6 +1,6 @@
 //! Slots for rows.
 
-ghost use Rattle.std.specs.Prelude.{◌≡◌, ◌≤◌, ◌++◌, [], IsSome, IfSome, IfNone, IfOk, OnOk, OnErr, cond, false, fold, is_some, map, not, ◌&&◌, slice_get, Some, None, true};
+ghost use Rattle.std.specs.Prelude.{◌≡◌, ◌≤◌, ◌++◌, [], IfSome, IfNone, IfOk, OnOk, OnErr, cond, false, fold, is_some, map, not, ◌&&◌, slice_get, Some, None, true};
 ghost use Rattle.std.specs.Option.{option_copied, option_map};
 ghost use Rattle.std.specs.Map.{lookup};
 ghost use Rattle.std.specs.BTreeMap.{is_at};
@@ -82,6 +82,22 @@ impl Slots {
         let local = self.map.make(place)?;
         self.map.are_in_order();
         Ok(local)
+    }
+
+    /// Makes slots for rows of an object that has none, and tells whether it did: where the object has slots, nothing changes.
+    /// Nobody sees them.
+    pub(crate) fn reserve_object(&mut self, object: &Oid, rows: &[Held]) -> Result<bool, NoMemory>
+        requires tidy { IsTidy self.old }
+        requires own { list_all (is_life object.now) rows.now ≡ true }
+        ensures seen { rows_seen self.new ≡ rows_seen self.old }
+        ensures tidy { IsTidy self.new }
+        ensures same { (q : Place) → row_at self.new q ≡ row_at self.old q }
+        ensures more { (q : Place) → HasSlot self.old q → HasSlot self.new q }
+        ensures made { IfOk result (λ made. made ≡ true → Each (λ h. HasSlot self.new (place_of h.update.key)) rows.now) }
+    {
+        let made = self.map.make_object(object, rows)?;
+        self.map.are_in_order();
+        Ok(made)
     }
 
     /// Puts a row into the slot of its key, which is made if there is none.

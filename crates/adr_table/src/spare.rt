@@ -1,14 +1,17 @@
 //! Room for rows that are written, and what they leave over.
 
-ghost use Rattle.std.specs.Prelude.{◌≡◌, IfSome, OnOk};
+ghost use Rattle.std.specs.Prelude.{◌≡◌, ◌<◌, ◌≤◌, IfOk, IfSome, OnOk, length, take, true};
+ghost use Rattle.std.specs.List.{list_all};
 ghost use Rattle.adr_model.specs.Store.{Held as Row};
+ghost use Rattle.adr_shelves.specs.Shelves.{front, is_life};
 ghost use Rattle.adr_table.specs.Locals.{IsLocated};
 ghost use Rattle.adr_table.specs.Table.{AreNumbered, HasRoom, HaveRoom, IsKept, rows_in};
 
 use crate::locals::{Local, name};
 use crate::table::Table;
+use crate::write::life_of;
 use crate::{NoMemory, back, deaths, locals};
-use adr_shelves::Place;
+use adr_shelves::{Place, is_life};
 use adr_update::{Held, Key};
 use adr_values::{LinkKey, Oid};
 use std::alloc::Global;
@@ -97,6 +100,19 @@ impl Spare {
     }
 }
 
+/// How many rows at the front of others are an object's and no deaths.
+fn lives_of(object: &Oid, rows: &[Held]) -> usize
+    ensures within { result ≤ length rows.now }
+    ensures front { take result rows.now ≡ front (is_life object.now) rows.now }
+{
+    for (place, row) in rows.iter().enumerate() {
+        if !is_life(object, row) {
+            return place;
+        }
+    }
+    rows.len()
+}
+
 impl Table {
     /// Makes a slot for a row, and its hints, and tells the local update sequence number of the row that it takes the place
     /// of. Nobody sees it.
@@ -121,6 +137,82 @@ impl Table {
         Ok(None)
     }
 
+    /// Makes slots for rows of an object that has none, and their hints, and tells whether it did. Nobody sees it.
+    fn reserve_object(&mut self, object: &Oid, rows: &[Held]) -> Result<bool, NoMemory>
+        requires kept { IsKept self.old }
+        requires numbered { AreNumbered self.old }
+        requires own { list_all (is_life object.now) rows.now ≡ true }
+        ensures rows { rows_in self.new ≡ rows_in self.old }
+        ensures kept { IsKept self.new }
+        ensures numbered { AreNumbered self.new }
+        ensures more { (h : Row) → HasRoom self.old h → HasRoom self.new h }
+        ensures ok { IfOk result (λ made. made ≡ true → HaveRoom self.new rows.now) }
+    {
+        if !self.slots.reserve_object(object, rows)? {
+            return Ok(false);
+        }
+        locals::remember_all(&mut self.locals, rows)?;
+        Ok(true)
+    }
+
+    /// Makes slots for rows, and their hints, and names the hints of the rows that they take the place of, and what dies by
+    /// them. Nobody sees it.
+    fn reserve_each(
+        &mut self,
+        alloc: Global,
+        rows: &[Held],
+        spare: &mut Spare,
+    ) -> Result<(), NoMemory>
+        requires kept { IsKept self.old }
+        requires numbered { AreNumbered self.old }
+        ensures rows { rows_in self.new ≡ rows_in self.old }
+        ensures kept { IsKept self.new }
+        ensures numbered { AreNumbered self.new }
+        ensures more { (h : Row) → HasRoom self.old h → HasRoom self.new h }
+        ensures ok { OnOk result (HaveRoom self.new rows.now) }
+    {
+        let mut before = None;
+        for row in rows {
+            let usn = self.reserve_one(before, row)?;
+            spare.add_before(alloc, self, &row.key(), usn)?;
+            before = Some(row);
+        }
+        Ok(())
+    }
+
+    /// Makes room for the first of rows, and with it for those behind it that are of the same object and no deaths, and tells
+    /// for how many. Nobody sees it.
+    fn reserve_front(
+        &mut self,
+        alloc: Global,
+        rows: &[Held],
+        spare: &mut Spare,
+    ) -> Result<usize, NoMemory>
+        requires kept { IsKept self.old }
+        requires numbered { AreNumbered self.old }
+        requires some { 0 < length rows.now }
+        ensures rows { rows_in self.new ≡ rows_in self.old }
+        ensures kept { IsKept self.new }
+        ensures numbered { AreNumbered self.new }
+        ensures more { (h : Row) → HasRoom self.old h → HasRoom self.new h }
+        ensures some { IfOk result (λ n. 0 < n) }
+        ensures within { IfOk result (λ n. n ≤ length rows.now) }
+        ensures ok { IfOk result (λ n. HaveRoom self.new (take n rows.now)) }
+    {
+        let end = match life_of(&rows[0]) {
+            Some(object) => {
+                let end = lives_of(&object, rows);
+                if end > 1 && self.reserve_object(&object, &rows[..end])? {
+                    return Ok(end);
+                }
+                end
+            }
+            None => 1,
+        };
+        self.reserve_each(alloc, &rows[..end], spare)?;
+        Ok(end)
+    }
+
     /// Makes room for rows that are written and objects that are removed, and tells what will be spare. Nobody sees it.
     pub fn reserve(
         &mut self,
@@ -136,11 +228,9 @@ impl Table {
         ensures ok { OnOk result (HaveRoom self.new rows.now) }
     {
         let mut spare = Spare::new(alloc);
-        let mut before = None;
-        for row in rows {
-            let usn = self.reserve_one(before, row)?;
-            spare.add_before(alloc, self, &row.key(), usn)?;
-            before = Some(row);
+        let mut place = 0;
+        while place < rows.len() {
+            place += self.reserve_front(alloc, &rows[place..], &mut spare)?;
         }
         if !spare.objects.is_empty() {
             spare.add_written(rows)?;

@@ -8,8 +8,8 @@ ghost use Rattle.adr_table.specs.Slots.{AreFull, IsTidy, places, row_at, rows_se
 ghost use Rattle.adr_table.specs.Back.{AreBacked};
 ghost use Rattle.adr_table.specs.Deaths.{AreListed};
 ghost use Rattle.adr_table.specs.Locals.{AreLocated};
-ghost use Rattle.adr_shelves.specs.Shelves.{front, held_at, is_life};
-ghost use Rattle.adr_table.specs.Table.{AreNumbered, HasRoom, HaveRoom, IsKept, is_life_of, rows_in};
+ghost use Rattle.adr_shelves.specs.Shelves.{held_at, is_life, is_life_of};
+ghost use Rattle.adr_table.specs.Table.{AreNumbered, HasRoom, HaveRoom, IsKept, rows_in};
 ghost use Rattle.adr_shelves.specs.declared.place.Place.{Place as Seat};
 
 use crate::back::{Behind, empty_links_to, forget};
@@ -86,11 +86,11 @@ fn forget_locals(slots: &Slots, locals: &mut BTreeSet<Local>, hints: &[Local])
     }
 }
 
-/// The object of the first of rows, if that is a row of one and no death.
-fn next_life(rows: &VecDeque<Held>) -> Option<Oid>
-    ensures { IfSome result (λ o. front (is_life o) rows.now.items ≡ [] → ⊥) }
+/// The object of a row of one that is no death.
+pub(crate) fn life_of(row: &Held) -> Option<Oid>
+    ensures { IfSome result (λ o. is_life o row.now ≡ true) }
 {
-    let key = rows.front()?.key();
+    let key = row.key();
     let dies = key.killed().is_some();
     match key {
         Key::Row { object, .. } if !dies => Some(object),
@@ -116,22 +116,6 @@ impl Table {
         }
     }
 
-    /// Puts the first of rows for which there is room.
-    fn put_first(&mut self, rows: &mut VecDeque<Held>)
-        requires kept { IsKept self.old }
-        requires numbered { AreNumbered self.old }
-        requires room { HaveRoom self.old rows.old.items }
-        ensures rows { fold put (rows_in self.new) rows.new.items ≡ fold put (rows_in self.old) rows.old.items }
-        ensures fewer { 0 < length rows.old.items → length rows.new.items < length rows.old.items }
-        ensures kept { IsKept self.new }
-        ensures numbered { AreNumbered self.new }
-        ensures room { HaveRoom self.new rows.new.items }
-    {
-        if let Some(row) = rows.pop_front() {
-            self.put(row);
-        }
-    }
-
     /// Puts the first of rows for which there is room, and with it those behind it that are of the same object and no deaths.
     fn put_front(&mut self, rows: &mut VecDeque<Held>)
         requires kept { IsKept self.old }
@@ -143,9 +127,17 @@ impl Table {
         ensures numbered { AreNumbered self.new }
         ensures room { HaveRoom self.new rows.new.items }
     {
-        match next_life(rows) {
+        let object = match rows.front() {
+            Some(row) => life_of(row),
+            None => None,
+        };
+        match object {
             Some(object) => self.slots.fill_object(&object, rows),
-            None => self.put_first(rows),
+            None => {
+                if let Some(row) = rows.pop_front() {
+                    self.put(row);
+                }
+            }
         }
     }
 

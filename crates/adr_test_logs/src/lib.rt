@@ -3,9 +3,13 @@
 //! alone, and the limit of logs. The bytes and places were worked out by hand.
 #![tactic(auto)]
 
+#[cfg(test)]
 mod client;
+#[cfg(test)]
 mod kept;
+#[cfg(test)]
 mod logs;
 #[cfg(test)]
 mod tests;
+#[cfg(test)]
 mod written;

@@ -83,7 +83,7 @@ impl Values {
 fn copy_values(alloc: Global, values: &[Value]) -> Result<Vec<Value>, NoMemory>
     ensures { IfOk result (λ copy. copy.items ≡ values.now) }
 {
-    let mut copy = Vec::new(alloc);
+    let mut copy = Vec::with_capacity(alloc, values.len())?;
     for value in values {
         copy.push(value.copy(alloc)?)?;
     }

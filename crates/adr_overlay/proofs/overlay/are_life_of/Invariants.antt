@@ -1,6 +1,6 @@
 use Rattle.std.proofs.Common.{◌≡◌, drop}
 use Rattle.std.specs.List.{list_all}
-use Rattle.adr_table.specs.Table.{is_life_of}
+use Rattle.adr_shelves.specs.Shelves.{is_life_of}
 use Rattle.adr_overlay.proofs.overlay.are_life_of.Given as goal
 
 -- those that are left decide
