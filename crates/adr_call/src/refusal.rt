@@ -1,5 +1,6 @@
 //! Why a call was refused. A message reads as the refusal is answered, without its number: identifiers in their full
-//! form, and attributes by their numbers.
+//! form, and attributes by their numbers. Of a bad item it also tells the fields of the cause, of which an answer has the
+//! name alone.
 
 ghost use Rattle.std.specs.Prelude.{◌≡◌};
 ghost use Rattle.adr_values.specs.declared.failure.Failure.TheVariants.{Refused as refused};

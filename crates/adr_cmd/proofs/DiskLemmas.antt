@@ -1,6 +1,6 @@
 -- What a status says of a command over a disk.
 use Rattle.std.proofs.Common.{◌≡◌, ◌<◌, ◌≤◌, ◌∙◌, inl, inr, refl, sym, ℕ, List, Bool, Option, Some, None, arith}
-use Rattle.std.specs.Prelude.{codes}
+use Rattle.std.specs.Prelude.{IfSome, codes, drop}
 use Rattle.adr_disk.specs.Disk.{LeavesOnly}
 use Rattle.adr_io.specs.declared.Source.{Ghosts as SourceGhosts}
 use Rattle.adr_io.specs.declared.Sink.{Ghosts as SinkGhosts}
@@ -12,7 +12,7 @@ use Rattle.adr_model.specs.Store.{State}
 use Rattle.adr_node.specs.Begins.{IsUnbegun}
 use Rattle.adr_node.specs.Seen.{of_disk}
 use Rattle.adr_node.specs.Looks.{Due, Looks, backup_bytes, due_of, export_bytes, never, refuses_backup, show_bytes}
-use Rattle.adr_node.specs.Makes.{Makes, TellsVerdict, Verdict}
+use Rattle.adr_node.specs.Makes.{Makes, TellsVerdict, Verdict, image_limit}
 use Rattle.adr_node.specs.declared.ended.Unbegun.TheVariants as unbegun
 use Rattle.adr_node.specs.declared.ended.Looked.{Looked}
 use Rattle.adr_node.specs.declared.ended.Looked.TheVariants as looks
@@ -23,7 +23,7 @@ use Rattle.adr_node.proofs.Mirrored.{kept_leaves}
 use Rattle.adr_node.proofs.Formatted.{always}
 use Rattle.adr_words.specs.declared.kinds.DiskCommand.{DiskCommand}
 use Rattle.adr_words.specs.declared.kinds.DiskCommand.TheVariants.{Create, Install, Restore, Backup, Show, Export}
-use Rattle.adr_cmd.specs.OnDisk.{AdoptedSo, AtHand, DoesSo, HasCauses, LooksSo, MakesSo, NewSo, status_of_look, status_of_making}
+use Rattle.adr_cmd.specs.OnDisk.{AdoptedSo, AtHand, DoesSo, HasCauses, LooksSo, MakesSo, NewSo, ReadsImage, status_of_look, status_of_making}
 
 -- ---- commands that only look: which ending has a status
 
@@ -120,38 +120,52 @@ module _ {D : Type 0} (d : DiskGhosts D) (only_now : OnlyNow d) where
   none_begun k disk sink =
       wanting (of_disk d) k disk disk sink sink unbegun.NoMemory (inr (refl, refl)) (omega arith) (λ is. is) (unchanged disk) (λ x left. left) refl
 
+-- nothing was read
+pub none_read : (most : ℕ) (left : Option (List ℕ)) → IfSome left (λ text. (n : ℕ) × (n ≤ most) × (left ≡ Some (drop n text)))
+none_read most None = tt
+none_read most (Some text) = (0, omega arith, refl)
+
 module _ {S K D F : Type 0} (s : SourceGhosts S) (k : SinkGhosts K) (d : DiskGhosts D) (f : FreshGhosts F) (only_now : OnlyNow d) where
   nothing_looked : (refuses : State → Bool) (bytes : State → List ℕ) (at : AtHand S K D F) → LooksSo k d (due_of refuses bytes) at at 8
   nothing_looked refuses bytes at =
       (looks.NoMemory, refl, unbegun_looks (of_disk d) k refuses bytes at.disk at.disk at.sink at.sink unbegun.NoMemory (none_begun d only_now k at.disk at.sink), refl, refl)
 
-  nothing_made : (comes : Verdict → Type 0) (verb name : List ℕ) (at : AtHand S K D F) → MakesSo k d comes verb name at at 8
-  nothing_made comes verb name at = (
-    makes.NoMemory,
-    refl,
-    record {
-      verdict = None;
-      is_so = tt;
-      tells = (refl, λ written. written, λ e. absurd (cc e));
-      leaves = tt;
-      disk_fault = λ e. absurd (cc e);
-      stays = λ none passed. refl;
-      begun = None;
-      comes_so = tt;
-      begins =
-          record {
-            later = omega arith;
-            still_told = (λ is. is, λ is. is);
-            any_moment = always ((of_disk d).told at.disk) (unchanged d only_now at.disk);
-            left = always ((of_disk d).told at.disk) (λ f left. left);
-          };
-    },
-  )
+  nothing_made : (comes : Verdict → Type 0) (reads : Creation → Type 0) (verb name : List ℕ) (at : AtHand S K D F) → reads makes.NoMemory
+      → MakesSo k d comes reads verb name at at 8
+  nothing_made comes reads verb name at none = record {
+    how = makes.NoMemory;
+    status_is = refl;
+    made =
+        record {
+          verdict = None;
+          is_so = tt;
+          tells = (refl, λ written. written, λ e. absurd (cc e));
+          leaves = tt;
+          disk_fault = λ e. absurd (cc e);
+          stays = λ none passed. record { told = refl; any_moment = unchanged d only_now at.disk; left = λ f left. left };
+          begun = None;
+          comes_so = tt;
+          on_empty = tt;
+          begins =
+              record {
+                later = omega arith;
+                still_told = (λ is. is, λ is. is);
+                any_moment = always ((of_disk d).told at.disk) (unchanged d only_now at.disk);
+                left = always ((of_disk d).told at.disk) (λ f left. left);
+              };
+          unbegun = λ none. record { told = refl; left = λ f left. left; since = λ t f left. left; moment = refl; faults = omega arith };
+        };
+    reads_so = none;
+    undrawn = λ e. absurd (cc e);
+    untouched = λ e. absurd (elim e [ inl e ↦ cc e | inr e ↦ cc e ]);
+  }
 
   pub nothing_done : (command : DiskCommand) (at : AtHand S K D F) → DoesSo s k d f command at at 8
-  nothing_done (Create name) at = (nothing_made (NewSo f at at) (codes "create") name at, refl)
-  nothing_done (Install name) at = nothing_made (AdoptedSo s f None at at) (codes "install") name at
-  nothing_done (Restore name dsa) at = nothing_made (AdoptedSo s f (Some dsa) at at) (codes "restore") name at
+  nothing_done (Create name) at = nothing_made (NewSo f at at) (λ how. at.source ≡ at.source) (codes "create") name at refl
+  nothing_done (Install name) at =
+      nothing_made (AdoptedSo s f None at at) (ReadsImage s at at) (codes "install") name at (none_read image_limit (s.left at.source), tt, λ e. refl)
+  nothing_done (Restore name dsa) at =
+      nothing_made (AdoptedSo s f (Some dsa) at at) (ReadsImage s at at) (codes "restore") name at (none_read image_limit (s.left at.source), tt, λ e. refl)
   nothing_done (Backup name) at = nothing_looked refuses_backup backup_bytes at
   nothing_done (Show name) at = nothing_looked never (show_bytes name) at
   nothing_done (Export name) at = nothing_looked never export_bytes at

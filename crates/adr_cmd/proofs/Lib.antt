@@ -1,3 +1,4 @@
 pub mod TopLemmas
 pub mod DiskLemmas
 pub mod OnlineLemmas
+pub mod ObeyLemmas

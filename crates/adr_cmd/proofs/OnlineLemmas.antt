@@ -1,6 +1,6 @@
 -- A command over a network, where memory was wanting before anything was done.
-use Rattle.std.proofs.Common.{◌≡◌, ◌≤◌, inl, inr, refl, ℕ, List, Option, Some, None, arith}
-use Rattle.std.specs.Prelude.{◌+◌, drop, IfSome}
+use Rattle.std.proofs.Common.{inl, inr, refl, ℕ, List, arith}
+use Rattle.std.specs.Prelude.{◌+◌}
 use Rattle.adr_io.specs.declared.Source.{Ghosts as SourceGhosts}
 use Rattle.adr_io.specs.declared.Sink.{Ghosts as SinkGhosts}
 use Rattle.adr_disk.specs.declared.disk.Disk.{Ghosts as DiskGhosts}
@@ -17,7 +17,7 @@ use Rattle.adr_online.specs.declared.ended.Pulled.TheVariants as pulls
 use Rattle.adr_online.specs.declared.ended.Sent.TheVariants as sends
 use Rattle.adr_online.proofs.Started.{none_pulled}
 use Rattle.adr_cmd.specs.Online.{PullsSo, SendsSo, ServesSo}
-use Rattle.adr_cmd.proofs.DiskLemmas.{OnlyNow, none_begun}
+use Rattle.adr_cmd.proofs.DiskLemmas.{OnlyNow, none_begun, none_read}
 
 pub nothing_served : {D N C K : Type 0} (d : DiskGhosts D) (n : NetGhosts N) (c : ClockGhosts C) (k : SinkGhosts K) (only_now : OnlyNow d)
     (count : ℕ) (at : AtServer D N C K) → ServesSo d n c k count at at 8
@@ -29,18 +29,13 @@ pub nothing_pulled : {D N K : Type 0} (d : DiskGhosts D) (n : NetGhosts N) (k : 
 nothing_pulled d n k only_now name at =
     (pulls.NoMemory, refl, none_pulled (of_disk d) n k name at at unbegun.NoMemory (none_begun d only_now k at.disk at.sink) refl)
 
--- nothing was read
-none_read : (left : Option (List ℕ)) → IfSome left (λ bytes. (m : ℕ) × (m ≤ text_limit + 1) × (left ≡ Some (drop m bytes)))
-none_read None = tt
-none_read (Some bytes) = (0, omega arith, refl)
-
 pub nothing_sent : {S N K : Type 0} (s : SourceGhosts S) (n : NetGhosts N) (k : SinkGhosts K) (source : S) (net : N) (sink : K) → SendsSo s n k source source net net sink sink 8
 nothing_sent s n k source net sink = (
   sends.NoMemory,
   refl,
   record {
     does = inl (inr refl, refl, refl);
-    at_most = none_read (s.left source);
+    at_most = none_read (text_limit + 1) (s.left source);
     read_fault = λ e. absurd (cc e);
     write_fault = λ e. absurd (cc e);
     link_fault = λ e. absurd (cc e);

@@ -1,3 +1,4 @@
 pub mod Usage
 pub mod OnDisk
 pub mod Online
+pub mod Obeys

@@ -1,5 +1,5 @@
 -- What the commands over a disk do, and the status of each.
-use Rattle.std.specs.Prelude.{◌≡◌, ◌<◌, ◌≤◌, ℕ, List, Option, Some, None, codes}
+use Rattle.std.specs.Prelude.{◌≡◌, ◌⊎◌, ◌<◌, ◌≤◌, ℕ, List, Option, Some, None, codes}
 use Rattle.adr_io.specs.declared.Source.{Ghosts as SourceGhosts}
 use Rattle.adr_io.specs.declared.Sink.{Ghosts as SinkGhosts}
 use Rattle.adr_disk.specs.declared.disk.Disk.{Ghosts as DiskGhosts}
@@ -7,11 +7,12 @@ use Rattle.adr_outside.specs.declared.fresh.Fresh.{Ghosts as FreshGhosts}
 use Rattle.adr_model.specs.Store.{State}
 use Rattle.adr_model.specs.Update.{Identifier}
 use Rattle.adr_law_journal.specs.Areas.{Started}
-use Rattle.adr_node.specs.Seen.{of_disk}
+use Rattle.adr_node.specs.Seen.{Untouched, of_disk}
 use Rattle.adr_node.specs.Looks.{Due, Looks, backup_bytes, due_of, export_bytes, never, refuses_backup, show_bytes}
-use Rattle.adr_node.specs.Makes.{Adopts, IsNew, Makes, Verdict}
+use Rattle.adr_node.specs.Makes.{Adopts, IsNew, IsReadAtMost, Makes, ReadsSo, Verdict}
 use Rattle.adr_node.specs.declared.ended.Looked.{Looked}
 use Rattle.adr_node.specs.declared.ended.Looked.TheVariants as looks
+use Rattle.adr_node.specs.declared.ended.Refusal.TheVariants.{NotEmpty}
 use Rattle.adr_node.specs.declared.ended.Creation.{Creation}
 use Rattle.adr_node.specs.declared.ended.Creation.TheVariants as makes
 use Rattle.adr_words.specs.declared.kinds.DiskCommand.{DiskCommand}
@@ -51,9 +52,22 @@ LooksSo k d due before after status =
     (how : Looked) × (status ≡ status_of_look how) × Looks (of_disk d) k due before.disk after.disk before.sink after.sink how
     × (after.source ≡ before.source) × (after.fresh ≡ before.fresh)
 
-abbrev pub MakesSo : {S K D F : Type 0} → SinkGhosts K → DiskGhosts D → (Verdict → Type 0) → List ℕ → List ℕ → AtHand S K D F → AtHand S K D F → ℕ → Type 0
-MakesSo k d comes verb name before after status =
-    (how : Creation) × (status ≡ status_of_making how) × Makes d k comes verb name before.disk after.disk before.sink after.sink how
+-- A command that makes a controller has read and drawn so much. Where the disk has bytes it has drawn nothing, and where reading or
+-- drawing failed, nothing has changed of the disk.
+pub record MakesSo {S K D F : Type 0} (k : SinkGhosts K) (d : DiskGhosts D) (comes : Verdict → Type 0) (reads : Creation → Type 0) (verb name : List ℕ)
+    (before after : AtHand S K D F) (status : ℕ) : Type 0 where
+  pub how : Creation
+  pub status_is : status ≡ status_of_making how
+  pub made : Makes d k comes verb name before.disk after.disk before.sink after.sink how
+  pub reads_so : reads how
+  pub undrawn : how ≡ makes.Refused NotEmpty → after.fresh ≡ before.fresh
+  pub untouched : (how ≡ makes.ReadFault) ⊎ (how ≡ makes.FreshFault) → Untouched d before.disk after.disk
+
+-- of the source no more is read than an image may have, so much where the command came further, and nothing where the disk has bytes
+abbrev pub ReadsImage : {S K D F : Type 0} → SourceGhosts S → AtHand S K D F → AtHand S K D F → Creation → Type 0
+ReadsImage s before after how =
+    IsReadAtMost (s.left before.source) (s.left after.source) × ReadsSo (s.left before.source) (s.left after.source) how
+    × (how ≡ makes.Refused NotEmpty → after.source ≡ before.source)
 
 -- a fault has its cause, and no count of faults falls
 pub record HasCauses {S K D F : Type 0} (s : SourceGhosts S) (k : SinkGhosts K) (d : DiskGhosts D) (f : FreshGhosts F) (before after : AtHand S K D F)
@@ -78,9 +92,12 @@ NewSo f before after = IsNew (f.identifiers before.fresh) (f.identifiers after.f
 
 -- what each command does
 abbrev pub DoesSo : {S K D F : Type 0} → SourceGhosts S → SinkGhosts K → DiskGhosts D → FreshGhosts F → DiskCommand → AtHand S K D F → AtHand S K D F → ℕ → Type 0
-DoesSo s k d f (Create name) before after status = MakesSo k d (NewSo f before after) (codes "create") name before after status × (after.source ≡ before.source)
-DoesSo s k d f (Install name) before after status = MakesSo k d (AdoptedSo s f None before after) (codes "install") name before after status
-DoesSo s k d f (Restore name dsa) before after status = MakesSo k d (AdoptedSo s f (Some dsa) before after) (codes "restore") name before after status
+DoesSo s k d f (Create name) before after status =
+    MakesSo k d (NewSo f before after) (λ how. after.source ≡ before.source) (codes "create") name before after status
+DoesSo s k d f (Install name) before after status =
+    MakesSo k d (AdoptedSo s f None before after) (ReadsImage s before after) (codes "install") name before after status
+DoesSo s k d f (Restore name dsa) before after status =
+    MakesSo k d (AdoptedSo s f (Some dsa) before after) (ReadsImage s before after) (codes "restore") name before after status
 DoesSo s k d f (Backup name) before after status = LooksSo k d (due_of refuses_backup backup_bytes) before after status
 DoesSo s k d f (Show name) before after status = LooksSo k d (due_of never (show_bytes name)) before after status
 DoesSo s k d f (Export name) before after status = LooksSo k d (due_of never export_bytes) before after status

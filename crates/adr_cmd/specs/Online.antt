@@ -1,5 +1,5 @@
 -- What the commands over a network do, and the status of each.
-use Rattle.std.specs.Prelude.{◌≡◌, ⊤, ℕ, List, Option, Some, None}
+use Rattle.std.specs.Prelude.{◌≡◌, ℕ, List}
 use Rattle.adr_io.specs.declared.Source.{Ghosts as SourceGhosts}
 use Rattle.adr_io.specs.declared.Sink.{Ghosts as SinkGhosts}
 use Rattle.adr_disk.specs.declared.disk.Disk.{Ghosts as DiskGhosts}
@@ -15,8 +15,6 @@ use Rattle.adr_online.specs.declared.ended.Pulled.{Pulled}
 use Rattle.adr_online.specs.declared.ended.Pulled.TheVariants as pulls
 use Rattle.adr_online.specs.declared.ended.Sent.{Sent}
 use Rattle.adr_online.specs.declared.ended.Sent.TheVariants as sends
-use Rattle.adr_words.specs.declared.kinds.Command.{Command}
-use Rattle.adr_words.specs.declared.kinds.Command.TheVariants as commands
 
 -- ---- the status
 
@@ -65,13 +63,3 @@ PullsSo d n k name before after status = (how : Pulled) × (status ≡ status_of
 abbrev pub SendsSo : {S N K : Type 0} → SourceGhosts S → NetGhosts N → SinkGhosts K → S → S → N → N → K → K → ℕ → Type 0
 SendsSo s n k source source_after net net_after sink sink_after status =
     (how : Sent) × (status ≡ status_of_send how) × Sends s n k source source_after net net_after sink sink_after how
-
--- words that ask for no network
-abbrev pub IsOffline : Option Command → Type 0
-IsOffline (Some (commands.Serve name port count)) = ⊥
-IsOffline (Some (commands.Pull name port)) = ⊥
-IsOffline (Some (commands.Send port)) = ⊥
-IsOffline (Some commands.Replay) = ⊤
-IsOffline (Some (commands.Exercise number)) = ⊤
-IsOffline (Some (commands.OnDisk command)) = ⊤
-IsOffline None = ⊤

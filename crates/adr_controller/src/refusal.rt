@@ -21,7 +21,7 @@ pub enum Hindrance {
     /// A call of its disk failed, and no start has succeeded since.
     #[error("failed")]
     Failed,
-    /// Its log would end beyond its limit.
+    /// Its log would end beyond its limit, or an image or a record would be too long for its length.
     #[error("Full table=Log limit={}", LOG_LIMIT)]
     Full,
     /// A call of its disk failed within this call.

@@ -109,7 +109,7 @@ fn schema_mismatch(state: &State, request: &Request) -> Option<ServeRefusal>
     (theirs != mine).then_some(ServeRefusal::SchemaMismatch { mine, theirs })
 }
 
-/// Objects were collected whose deaths the asker hasn't seen.
+/// Objects were collected whose births or deaths the asker hasn't seen.
 fn too_old(state: &State, request: &Request) -> Option<ServeRefusal>
     ensures { result
         ≡ option_map (λ gap. ServeRefusal.TooOld gap.0 gap.2 gap.1) (first_gap state.now.store.purged request.now.vector) }

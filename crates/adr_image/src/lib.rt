@@ -1,8 +1,9 @@
-//! Images: a store as bytes, and back.
+//! Images, changes as the bodies of records, and items: as bytes, and back.
 //!
-//! This crate decides how the bytes of an image are read, and which are refused and where, and how a store is written.
-//! Of each store there is one image, and whatever is read is formed. It stands on the fields and composites of `adr_wire`
-//! and on the definitions in `adr_model`. It knows nothing of disks, of journals or of the controllers that own a store.
+//! This crate decides how the bytes of each are read, which are refused and where, and how each is written. Of each store
+//! there is one image, and whatever is read of one is formed; of each change there is one body. It stands on the fields and
+//! composites of `adr_wire` and on the definitions in `adr_model`. It knows nothing of disks, of where records stand, or of
+//! the controllers that own a store.
 #![tactic(auto)]
 
 mod anew;

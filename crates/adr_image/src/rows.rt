@@ -80,7 +80,8 @@ pub fn with_held(before: Before, row: &(u64, (u16, Stamp, Content))) -> Before
     }
 }
 
-/// A row with its local USN. A row that the object may not have is a fault at `owner`, its first byte.
+/// A row with its local USN. One that is out of order is a fault at its own first byte, and one that the object may not
+/// have is a fault at `owner`, the object's first byte.
 #[tactic(auto, unfolding(crate::specs::Image::held_row_at))]
 pub fn read_held_row(
     reader: &mut Reader<'_>,

@@ -7,7 +7,7 @@ use Rattle.adr_disk.specs.Disk.{Among}
 use Rattle.adr_wire.specs.Reading.{Reading}
 use Rattle.adr_model.specs.Store.{State}
 use Rattle.adr_model.specs.Change.{Change}
-use Rattle.adr_model.specs.Lengths.{Log, new_log, log_version, first_area, checkpointed, change_length, image_bytes, image_length, record_bytes, is_due, log_before, next_log}
+use Rattle.adr_model.specs.Lengths.{Log, new_log, area_version, first_area, checkpointed, change_length, image_bytes, image_length, record_bytes, is_due, log_before, next_log}
 use Rattle.adr_law_journal.specs.Log.{Following}
 use Rattle.adr_law_journal.specs.Areas.{Began, Found, found, Started, start_of}
 use Rattle.adr_law_journal.specs.Bound.{IsBounded, IsPlaced, IsUndue}
@@ -39,7 +39,7 @@ undue_is : (l : Log) (c : Change) → is_due l c ≡ false → IsUndue l (5 + ch
 undue_is l c undue = ⊎_elim
     (λ none. let no : record_bytes l ≡ 0 = omega (arith, ltb-false 0 (record_bytes l) none) in inl no)
     (λ few. let n : record_bytes l + (5 + change_length c) ≤ image_bytes l + 65536 = omega (arith, ltb-false (image_bytes l + 65536) (record_bytes l + 5 + change_length c) few) in inr n)
-    (none_or_few (nat_lt 0 (record_bytes l)) (nat_lt (image_bytes l + 65536) (record_bytes l + 5 + change_length c)) (nat_lt l.version log_version) undue)
+    (none_or_few (nat_lt 0 (record_bytes l)) (nat_lt (image_bytes l + 65536) (record_bytes l + 5 + change_length c)) (nat_lt l.version area_version) undue)
 
 module _ (file image longest : ℕ) (l : Log) (s : State) (c : Change) (is : IsBounded file image longest l) where
   n : ℕ

@@ -3,7 +3,7 @@ use Rattle.std.proofs.Common.{◌≡◌, ◌+◌, ◌≤◌, Bool, true, false, 
 use Rattle.std.specs.Prelude.{not, nat_lt, ◌&&◌, ◌||◌, unwrap_or}
 use Rattle.adr_model.specs.Change.{Change}
 use Rattle.std.proofs.lemmas.Bool.{ltb-false}
-use Rattle.adr_model.specs.Lengths.{Log, log_version, change_length, image_bytes, record_bytes, is_due}
+use Rattle.adr_model.specs.Lengths.{Log, area_version, change_length, image_bytes, record_bytes, is_due}
 
 some_log : (l next : Log) → Some l ≡ Some next → next ≡ l
 some_log l next is = sym (ap (λ (o : Option Log). unwrap_or o l) is)
@@ -48,5 +48,5 @@ neither true b is = absurd (cc is)
 neither false b is = is
 
 -- where no checkpoint is due, the area is of the version that is written
-pub version_is : (l : Log) (c : Change) → is_due l c ≡ false → l.version ≤ log_version → l.version ≡ log_version
-version_is l c undue most = omega (arith, most, ltb-false l.version log_version (neither (nat_lt 0 (record_bytes l) && nat_lt (image_bytes l + 65536) (record_bytes l + 5 + change_length c)) (nat_lt l.version log_version) undue))
+pub version_is : (l : Log) (c : Change) → is_due l c ≡ false → l.version ≤ area_version → l.version ≡ area_version
+version_is l c undue most = omega (arith, most, ltb-false l.version area_version (neither (nat_lt 0 (record_bytes l) && nat_lt (image_bytes l + 65536) (record_bytes l + 5 + change_length c)) (nat_lt l.version area_version) undue))

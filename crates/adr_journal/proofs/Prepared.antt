@@ -5,7 +5,7 @@ use Rattle.std.proofs.lemmas.Bool.{leb-true, ltb-true}
 use Rattle.adr_wire.specs.Reading.{Reading}
 use Rattle.adr_model.specs.Store.{State}
 use Rattle.adr_model.specs.Change.{Change, after}
-use Rattle.adr_model.specs.Lengths.{Log, log_limit, log_version, length_limit, first_area, checkpointed, change_length, image_length, is_due, log_after, log_before, next_log}
+use Rattle.adr_model.specs.Lengths.{Log, log_limit, area_version, length_limit, first_area, checkpointed, change_length, image_length, is_due, log_after, log_before, next_log}
 use Rattle.adr_law_journal.specs.Log.{Following}
 use Rattle.adr_law_journal.specs.Areas.{Began, Found, slot_place, IsFree, TellsArea, other_log}
 use Rattle.adr_law_journal.specs.Kept.{Layout, IsSettled, Stages}
@@ -28,15 +28,15 @@ place_is : (log : Log) (before : Bool) → ((if before then first_area else log.
 place_is log true = inl refl
 place_is log false = inr refl
 
-other_is : (log : Log) (place n m : ℕ) → m ≡ 6 + n → record { second = not log.second; place = place; version = log_version; first = place + 6 + n; log_end = place + 7 + n } ≡ other_log log place log_version m
+other_is : (log : Log) (place n m : ℕ) → m ≡ 6 + n → record { second = not log.second; place = place; version = area_version; first = place + 6 + n; log_end = place + 7 + n } ≡ other_log log place area_version m
 other_is log place n m is =
     let first : place + 6 + n ≡ place + m = omega (arith, is) in
     let end : place + 7 + n ≡ place + m + 1 = omega (arith, is) in
-    (λ i. let log : Log = record { second = not log.second; place = place; version = log_version; first = first i; log_end = end i } in log)
+    (λ i. let log : Log = record { second = not log.second; place = place; version = area_version; first = first i; log_end = end i } in log)
 
 -- what is known of a log that a journal has
 pub record IsLow (log : Log) : Type 0 where
-  pub version : log.version ≤ log_version
+  pub version : log.version ≤ area_version
   pub place : first_area ≤ log.place
   pub first : log.first < 2 ^ 63
   pub begun : log.place < log.log_end
@@ -46,16 +46,16 @@ pub record IsLow (log : Log) : Type 0 where
 pub record IsReadyFor {D : Type 0} (head : Reading Ids) (area : Ids → Reading (Began State)) (following : ℕ → Following State) (content : D → Option (List ℕ)) (may_leave : D → List ℕ → Type 0) (spare_calls spare_bytes : D → ℕ) (disk : D) (log next : Log) (new_area written image body : List ℕ) (f : Found State) (c : Change) : Type 0 where
   pub at : IsAt head area following content may_leave disk log f
   pub prepared : IsPrepared spare_calls spare_bytes disk log next new_area written image body f.state c
-  pub follows : following log_version f.state body ≡ Some (after f.state c)
+  pub follows : following area_version f.state body ≡ Some (after f.state c)
   pub long : length body ≡ change_length c
-  pub tells : image_length f.state.store < length_limit → (place : ℕ) → TellsArea (area (ids_of f.state)) place image log_version f.state
+  pub tells : image_length f.state.store < length_limit → (place : ℕ) → TellsArea (area (ids_of f.state)) place image area_version f.state
   pub area_long : image_length f.state.store < length_limit → length image ≡ 6 + image_length f.state.store
 
 -- by the same bytes
 pub ready : {D : Type 0} {head : Reading Ids} {area : Ids → Reading (Began State)} {following : ℕ → Following State} {content : D → Option (List ℕ)} {may_leave : D → List ℕ → Type 0} {spare_calls spare_bytes : D → ℕ} {disk : D} {log next : Log} {new_area areas written bytes image body : List ℕ} {f : Found State} {c : Change}
     → IsAt head area following content may_leave disk log f → IsPrepared spare_calls spare_bytes disk log next areas bytes image body f.state c → new_area ≡ areas → written ≡ bytes
-    → following log_version f.state body ≡ Some (after f.state c) → length body ≡ change_length c
-    → (image_length f.state.store < length_limit → (place : ℕ) → TellsArea (area (ids_of f.state)) place image log_version f.state) → (image_length f.state.store < length_limit → length image ≡ 6 + image_length f.state.store)
+    → following area_version f.state body ≡ Some (after f.state c) → length body ≡ change_length c
+    → (image_length f.state.store < length_limit → (place : ℕ) → TellsArea (area (ids_of f.state)) place image area_version f.state) → (image_length f.state.store < length_limit → length image ≡ 6 + image_length f.state.store)
     → IsReadyFor head area following content may_leave spare_calls spare_bytes disk log next new_area written image body f c
 ready {spare_calls = spare_calls} {spare_bytes = spare_bytes} {disk = disk} {log = log} {next = next} {new_area = new_area} {bytes = bytes} {image = image} {body = body} {f = f} {c = c} at prepared areas_are bytes_are follows long tells area_long = record {
   at = at;
@@ -110,18 +110,18 @@ module _ {D : Type 0} {head : Reading Ids} {area : Ids → Reading (Began State)
   still undue = log_undue (is_due log c) log other undue
 
   -- what is known of it
-  mid_low : IsLow mid × (mid.version ≡ log_version)
+  mid_low : IsLow mid × (mid.version ≡ area_version)
   mid_low = ⊎_elim
       (λ undue.
       let is = still undue.0 in
       let version = version_is log c undue.0 r.at.version in
-      subst (λ (l : Log). IsLow l × (l.version ≡ log_version)) (sym is) (low_of r.at, version))
+      subst (λ (l : Log). IsLow l × (l.version ≡ area_version)) (sym is) (low_of r.at, version))
       (λ due.
       let is = is_mid due.0 in
       let place = place_is log (nat_le (first_area + 7 + image_length f.state.store) log.place) in
       let near : other.log_end ≤ log_limit = omega (arith, ends_low, next_end, ap (λ (l : Log). l.log_end) is) in
       let far : first_area ≤ other.place = ⊎_elim (λ first. omega (arith, first)) (λ last. omega (arith, last, r.at.place, r.at.begun)) place in
-      subst (λ (l : Log). IsLow l × (l.version ≡ log_version)) (sym is)
+      subst (λ (l : Log). IsLow l × (l.version ≡ area_version)) (sym is)
       (record { version = omega arith; place = far; first = omega (arith, near); begun = omega arith; ends = omega (arith, near) }, refl))
       r.prepared.before
 
@@ -133,13 +133,13 @@ module _ {D : Type 0} {head : Reading Ids} {area : Ids → Reading (Began State)
       let free = free_there log (image_length f.state.store) (nat_le (first_area + 7 + image_length f.state.store) log.place) refl in (
         record {
           settled = settled;
-          version = log_version;
+          version = area_version;
           image = image;
           is = is;
           tells = r.tells (short_image due) next.place;
           free = subst (λ (p : ℕ). IsFree log p (length image + 1)) (sym place) (subst (λ (m : ℕ). IsFree log other.place m) (omega (arith, long_image)) free);
           slot_is = ap slot_place second;
-          becomes = is_mid due ∙ other_is log other.place (image_length f.state.store) (length image) long_image ∙ ap (λ (p : ℕ). other_log log p log_version (length image)) (sym place);
+          becomes = is_mid due ∙ other_is log other.place (image_length f.state.store) (length image) long_image ∙ ap (λ (p : ℕ). other_log log p area_version (length image)) (sym place);
           fits = ⊎_elim (λ first. omega (arith, first, place)) (λ last. omega (arith, last, place, r.at.ends)) (place_is log (nat_le (first_area + 7 + image_length f.state.store) log.place));
         },
         second ∙ ap (λ (l : Log). l.second) (sym (is_mid due)),

@@ -1,7 +1,6 @@
 -- What a start has read, step by step, and damage that was found.
 use Rattle.std.proofs.Common.{◌≡◌, ◌≢◌, ℕ, ◌+◌, ◌≤◌, ◌<◌, ◌^◌, List, [], ◌∷◌, ◌++◌, length, take, drop, get_or, Bool, Some, None, Err, refl, sym, ◌∙◌, ap, subst, arith, append_assoc, get_or-drop, length-drop, ◌==◌}
 use Rattle.std.specs.Int.{w64, from_be_bytes}
-use Rattle.std.proofs.lemmas.Bool.Decides.{nat_tests}
 use Rattle.std.proofs.lemmas.List.{drop_more}
 use Rattle.adr_wire.specs.Fields.{byte_of, u32}
 use Rattle.adr_wire.specs.Reading.{Rest, Reading}
@@ -46,13 +45,6 @@ one_byte bytes place lt = ap (λ (l : List ℕ). byte_of (take 1 l)) (drop_more 
 
 pub selects_so : (bytes : List ℕ) (second : Bool) → selector_place < length bytes → second ≡ (get_or bytes selector_place 0 == selects_second) → is_second bytes ≡ second
 selects_so bytes second lt is = ap (λ (b : ℕ). b == selects_second) (one_byte bytes selector_place lt) ∙ sym is
-
--- the slot that a selector selects
-pub second_slot : (n : ℕ) → n ≡ selects_second → 48 ≡ slot_place (n == selects_second)
-second_slot n is = grind (arith, nat_tests)
-
-pub first_slot : (n : ℕ) → n ≢ selects_second → 40 ≡ slot_place (n == selects_second)
-first_slot n other = grind (arith, nat_tests)
 
 pub slot_holds : (bytes : List ℕ) (second : Bool) (slot place : ℕ) → slot ≡ slot_place second → place ≡ from_be_bytes w64 (window slot 8 bytes) → slot_of second bytes ≡ place
 slot_holds bytes second slot place is holds = ap (λ (n : ℕ). from_be_bytes w64 (window n 8 bytes)) (sym is) ∙ sym holds

@@ -5,7 +5,7 @@ use Rattle.adr_disk.specs.Disk.{Among, Only, IsSpare}
 use Rattle.adr_wire.specs.Reading.{Reading}
 use Rattle.adr_model.specs.Store.{State}
 use Rattle.adr_model.specs.Change.{Change}
-use Rattle.adr_model.specs.Lengths.{Log, log_version, first_area, is_due, next_log, change_fits}
+use Rattle.adr_model.specs.Lengths.{Log, area_version, first_area, is_due, next_log, change_fits}
 use Rattle.adr_law_journal.specs.Log.{Following, record_of}
 use Rattle.adr_law_journal.specs.Areas.{Began, Found, start_of, IsHead}
 use Rattle.adr_law_journal.specs.Kept.{Layout, IsSettled}
@@ -31,7 +31,7 @@ layout_of head area following front told is_head =
 -- a settled log that stands for this, under a head of the state's identifiers, and all of whose places are low
 pub record IsAt {D : Type 0} (head : Reading Ids) (area : Ids → Reading (Began State)) (following : ℕ → Following State) (content : D → Option (List ℕ)) (may_leave : D → List ℕ → Type 0) (disk : D) (log : Log) (f : Found State) : Type 0 where
   pub is_log : f.log ≡ log
-  pub version : log.version ≤ log_version
+  pub version : log.version ≤ area_version
   pub front : List ℕ
   pub is_head : IsHead head front (ids_of f.state)
   pub settled : IsSettled (layout_of head area following front (ids_of f.state) is_head) content may_leave disk f.state f.log

@@ -7,22 +7,13 @@ ghost use Rattle.adr_wire.specs.Fields.{u64};
 ghost use Rattle.adr_model.specs.Store.{State as Defined};
 ghost use Rattle.adr_model.specs.Lengths.{Log};
 ghost use Rattle.adr_law_journal.specs.Areas.{found, selects_second, selector_place, slot_place};
-ghost use Rattle.adr_law_journal.specs.Commits.{Checkpoints, selector_of};
+ghost use Rattle.adr_law_journal.specs.Commits.{Checkpoints};
 ghost use Rattle.adr_law_journal.specs.Kept.{Layout, starts, IsSettled, IsBeside, Stages, IsOneOf};
 ghost use Rattle.adr_journal.specs.Written.{AreNoLonger};
 
+use crate::layout::{SELECTOR, selector_of, slot_of};
 use adr_disk::{Disk, write_through, write_twice_through};
 use adr_io::Fault;
-
-/// The place of the byte that selects a slot, and of the slots.
-const SELECTOR: u64 = 39;
-
-const FIRST_SLOT: u64 = 40;
-
-const SECOND_SLOT: u64 = 48;
-
-/// The selector that selects the second slot; every other one selects the first.
-const SELECTS_SECOND: u8 = 0xC3;
 
 /// Writes a new area where it is free, and its place into the slot that isn't selected. Whatever a crash leaves, a
 /// start finds what it would have found before.
@@ -122,17 +113,4 @@ pub(crate) fn write_checkpoint<D: Disk>(
     let selector = selector_of(second);
     stage_area(disk, place, written, slot)?;
     select_area(disk, selector)
-}
-
-fn slot_of(second: bool) -> u64
-    ensures { result ≡ slot_place second }
-{
-    if second { SECOND_SLOT } else { FIRST_SLOT }
-}
-
-fn selector_of(second: bool) -> u8
-    ensures is { result ≡ selector_of second }
-    ensures selects { (result == selects_second) ≡ second }
-{
-    if second { SELECTS_SECOND } else { 0 }
 }

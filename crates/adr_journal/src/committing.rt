@@ -17,7 +17,7 @@ use crate::keeper::KeeperRefusal;
 use crate::recording::{area_with_gate, record_of, write_record};
 use adr_disk::Disk;
 use adr_io::Fault;
-use adr_state::{Change, Log, State};
+use adr_state::{AREA_FRAME, Change, Log, State};
 use std::alloc::Global;
 
 /// What a commit writes: an area with its closed gate, or no bytes where no checkpoint is due, and a record with the
@@ -50,14 +50,11 @@ fn area_before<F: Form>(
     if !log.is_due(change) {
         return Ok((Vec::new(alloc), log));
     }
-    match area_with_gate::<F>(alloc, state) {
-        Ok(Some(area)) => {
-            let image = area.len() as u64 - 7;
-            Ok((area, log.checkpointed(image)))
-        }
-        Ok(None) => Err(KeeperRefusal::Full),
-        Err(_) => Err(KeeperRefusal::NoMemory),
-    }
+    let Some(area) = area_with_gate::<F>(alloc, state)? else {
+        return Err(KeeperRefusal::Full);
+    };
+    let image = area.len() as u64 - AREA_FRAME;
+    Ok((area, log.checkpointed(image)))
 }
 
 /// All that a commit of this change to this log writes. Full where the log would end beyond its limit, or where an image
@@ -79,21 +76,16 @@ pub fn spell<F: Form>(
     ensures full { IsErrOf result KeeperRefusal.Full → change_fits log state.now.store change.now ≡ false }
     ensures only { OnErr result (IsErrOf result KeeperRefusal.Full ⊎ IsErrOf result KeeperRefusal.NoMemory) }
 {
-    let (area, before) = match area_before::<F>(alloc, log, state, change) {
-        Ok(both) => both,
-        Err(refusal) => return Err(refusal),
-    };
+    let (area, before) = area_before::<F>(alloc, log, state, change)?;
     let Some(next) = before.after(change) else {
         return Err(KeeperRefusal::Full);
     };
-    match record_of::<F>(alloc, change) {
-        Ok(written) => Ok(Spelled {
-            area,
-            written,
-            next,
-        }),
-        Err(_) => Err(KeeperRefusal::NoMemory),
-    }
+    let written = record_of::<F>(alloc, change)?;
+    Ok(Spelled {
+        area,
+        written,
+        next,
+    })
 }
 
 /// Makes room for what a commit writes.

@@ -5,7 +5,7 @@ ghost use Rattle.adr_wire.specs.Reading.{Reading, Rest, Refuses};
 ghost use Rattle.adr_wire.specs.Spelling.{AreBytes};
 ghost use Rattle.adr_model.specs.Store.{State as Defined};
 ghost use Rattle.adr_model.specs.Change.{Change as Changes, after};
-ghost use Rattle.adr_model.specs.Lengths.{change_length, image_length, length_limit, log_version};
+ghost use Rattle.adr_model.specs.Lengths.{change_length, image_length, length_limit, area_version};
 ghost use Rattle.adr_law_journal.specs.Areas.{Began, IsHead, TellsArea, WasArea};
 ghost use Rattle.adr_journal.specs.Kept.{ids_of};
 
@@ -119,7 +119,7 @@ pub trait Form {
     ghost tells_front: { (s : Defined) → is_formed s → IsHead head (front_of (s.dsa, s.inv)) (s.dsa, s.inv) };
 
     ghost tells_area: { (place : ℕ) (s : Defined) → can_begin s → image_length s.store < length_limit
-        → TellsArea (area (s.dsa, s.inv)) place (area_of s) log_version s };
+        → TellsArea (area (s.dsa, s.inv)) place (area_of s) area_version s };
 
     ghost area_length: { (s : Defined) → can_begin s → length (area_of s) ≡ 6 + image_length s.store };
 
@@ -133,10 +133,10 @@ pub trait Form {
     /// What an area of a log with a head begins with is formed, has the identifiers of its log, and is of a version that is written or an earlier one.
     ghost area_formed: { (place : ℕ) (front : List ℕ) (o : List ℕ × List ℕ) (bytes : List ℕ) (began : Began Defined) (rest : Rest)
         → IsHead head front o → AreBytes bytes → area o (record { place = place; bytes = bytes }) ≡ Ok (began, rest)
-        → is_formed began.state × ((began.state.dsa, began.state.inv) ≡ o) × (began.version ≤ log_version) };
+        → is_formed began.state × ((began.state.dsa, began.state.inv) ≡ o) × (began.version ≤ area_version) };
 
     /// A change that may follow is read so, and is as long as the model says.
-    ghost body_follows: { (s : Defined) (c : Changes) → can_follow s c → following log_version s (body_of c) ≡ Some (after s c) };
+    ghost body_follows: { (s : Defined) (c : Changes) → can_follow s c → following area_version s (body_of c) ≡ Some (after s c) };
 
     ghost body_length: { (s : Defined) (c : Changes) → can_follow s c → length (body_of c) ≡ change_length c };
 

@@ -14,10 +14,11 @@ ghost use Rattle.adr_journal.specs.Written.{AreNoLonger, IsNone};
 
 use crate::form::Form;
 use crate::keeper::KeeperRefusal;
-use crate::recording::{CLOSED_GATE, OPEN_GATE, area_with_gate, log_with_area};
+use crate::layout::{CLOSED_GATE, OPEN_GATE};
+use crate::recording::{area_with_gate, log_with_area};
 use adr_disk::{Disk, write_through};
 use adr_io::Fault;
-use adr_state::{Log, State};
+use adr_state::{AREA_FRAME, Log, State};
 use std::alloc::Global;
 
 /// The bytes of a new log of a state behind its first gate, and where it stands. It is full where the image would be 4
@@ -32,18 +33,11 @@ pub fn new_log<F: Form>(alloc: Global, state: &State) -> Result<(Vec<u8>, Log), 
     ensures full { IsErrOf result KeeperRefusal.Full → area_fits (new_log state.now) state.now.store ≡ false }
     ensures only { OnErr result (IsErrOf result KeeperRefusal.Full ⊎ IsErrOf result KeeperRefusal.NoMemory) }
 {
-    let area = match area_with_gate::<F>(alloc, state) {
-        Ok(Some(area)) => area,
-        Ok(None) => return Err(KeeperRefusal::Full),
-        Err(_) => return Err(KeeperRefusal::NoMemory),
+    let Some(area) = area_with_gate::<F>(alloc, state)? else {
+        return Err(KeeperRefusal::Full);
     };
-    match log_with_area::<F>(alloc, state, &area) {
-        Ok(written) => {
-            let log = Log::new(area.len() as u64 - 7);
-            Ok((written, log))
-        }
-        Err(_) => Err(KeeperRefusal::NoMemory),
-    }
+    let written = log_with_area::<F>(alloc, state, &area)?;
+    Ok((written, Log::new(area.len() as u64 - AREA_FRAME)))
 }
 
 /// Writes a log behind a closed gate on an empty disk, and then opens the gate.

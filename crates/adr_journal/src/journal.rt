@@ -153,10 +153,7 @@ impl<D: Disk, F: Form> Keeper for Journal<D, F> {
     ghost only_now = { λ j t left. (left.0, D.only_now j.disk left.0 left.1, left.2) };
 
     fn format(&mut self, state: &State) -> Result<(), KeeperRefusal> {
-        let (written, log) = match new_log::<F>(self.alloc, state) {
-            Ok(both) => both,
-            Err(refusal) => return Err(refusal),
-        };
+        let (written, log) = new_log::<F>(self.alloc, state)?;
         match self.disk.reserve(6, written.len() as u64 + 2) {
             Ok(()) => {}
             Err(Fault::Failed) => {
@@ -182,10 +179,7 @@ impl<D: Disk, F: Form> Keeper for Journal<D, F> {
         if self.failed {
             return Err(KeeperRefusal::Failed);
         }
-        let spelled = match spell::<F>(self.alloc, self.log, state, change) {
-            Ok(spelled) => spelled,
-            Err(refusal) => return Err(refusal),
-        };
+        let spelled = spell::<F>(self.alloc, self.log, state, change)?;
         match reserve(&mut self.disk, &spelled.area, &spelled.written) {
             Ok(()) => {
                 self.area = spelled.area;
@@ -228,13 +222,9 @@ impl<D: Disk, F: Form> Keeper for Journal<D, F> {
             }),
             Err(StartRefusal::Damaged { .. }) => unreachable!(),
         };
-        match replay::<F>(self.alloc, &bytes) {
-            Ok((state, log)) => {
-                self.failed = false;
-                self.log = log;
-                Ok(state)
-            }
-            Err(refusal) => Err(refusal),
-        }
+        let (state, log) = replay::<F>(self.alloc, &bytes)?;
+        self.failed = false;
+        self.log = log;
+        Ok(state)
     }
 }

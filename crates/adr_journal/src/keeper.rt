@@ -12,6 +12,7 @@ ghost use Rattle.adr_journal.specs.declared.keeper.KeeperRefusal.{KeeperRefusal 
 ghost use Rattle.adr_journal.specs.declared.keeper.StartRefusal.{StartRefusal as Refused};
 
 use adr_state::{Change, LOG_LIMIT, State};
+use std::alloc::AllocError;
 use thiserror::Error;
 
 /// Why a state was not formatted, or a change not committed.
@@ -23,11 +24,22 @@ pub enum KeeperRefusal {
     /// One failed before, and no start has succeeded since.
     #[error("failed")]
     Failed,
-    /// The log would end beyond its limit.
+    /// The log would end beyond its limit, or an image or a record would be too long for its length.
     #[error("Full table=Log limit={}", LOG_LIMIT)]
     Full,
     #[error("no memory")]
     NoMemory,
+}
+
+impl From<AllocError> for KeeperRefusal {
+    ghost use Rattle.std.specs.Prelude.{◌≡◌};
+    ghost use Rattle.adr_journal.specs.declared.keeper.KeeperRefusal.TheVariants.{NoMemory as no_memory};
+
+    ghost from_gives = { λ _ e. e ≡ no_memory };
+
+    fn from(_e: AllocError) -> KeeperRefusal {
+        KeeperRefusal::NoMemory
+    }
 }
 
 /// Why a keeper was not started.

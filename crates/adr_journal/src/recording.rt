@@ -14,19 +14,12 @@ ghost use Rattle.adr_journal.specs.Kept.{ids_of};
 ghost use Rattle.adr_journal.specs.Written.{AreNoLonger, IsEitherLog, Takes};
 
 use crate::form::Form;
+use crate::layout::{CLOSED_GATE, OPEN_GATE, SELECTS_FIRST};
 use adr_disk::{Disk, write_through};
 use adr_io::Fault;
-use adr_state::{Change, State};
+use adr_state::{Change, FIRST_AREA, State};
 use adr_values::NoMemory;
 use std::alloc::Global;
-
-/// A gate that is open; every other byte is a closed one.
-pub const OPEN_GATE: u8 = 0xC3;
-
-pub(crate) const CLOSED_GATE: u8 = 0;
-
-/// The place of the area of a new log.
-const FIRST_AREA: u64 = 56;
 
 /// A new area of a state, with its closed gate; none where its image would be 4 GiB or longer.
 pub(crate) fn area_with_gate<F: Form>(
@@ -59,7 +52,7 @@ pub(crate) fn log_with_area<F: Form>(
         ≡ F.front_of (ids_of state.now) ++ (0 ∷ (u64 first_area ++ (u64 first_area ++ area.now)))) }
 {
     let mut written = F::write_front(alloc, state)?;
-    written.push(0)?;
+    written.push(SELECTS_FIRST)?;
     written.extend_from_slice(&FIRST_AREA.to_be_bytes())?;
     written.extend_from_slice(&FIRST_AREA.to_be_bytes())?;
     written.extend_from_slice(area)?;
@@ -68,7 +61,7 @@ pub(crate) fn log_with_area<F: Form>(
 
 /// A change's body behind its length, and the next gate, which is closed.
 #[tactic(auto, unfolding(adr_wire::specs::Fields::u32))]
-pub fn record_of<F: Form>(alloc: Global, change: &Change) -> Result<Vec<u8>, NoMemory>
+pub(crate) fn record_of<F: Form>(alloc: Global, change: &Change) -> Result<Vec<u8>, NoMemory>
     requires follows { (s : Defined) × F.can_follow s change.now }
     requires fits { length (F.body_of change.now) < 2 ^ 32 }
     ensures { IfOk result (λ bytes. bytes.items ≡ record_of (F.body_of change.now)) }

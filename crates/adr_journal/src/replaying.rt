@@ -2,7 +2,7 @@
 
 ghost use Rattle.std.specs.Prelude.{◌≡◌, ◌≤◌, ◌<◌, ◌+◌, ◌^◌, ◌++◌, ℕ, List, false, true, Some, Err, IfOk, IfErr, IfSome, IfNone, OnOk, IsErrOf, length, drop, get_or};
 ghost use Rattle.std.specs.Int.{w64, from_be_bytes};
-ghost use Rattle.adr_model.specs.Lengths.{log_version};
+ghost use Rattle.adr_model.specs.Lengths.{area_version};
 ghost use Rattle.adr_law_journal.specs.Log.{body_at, open_gate, with_length};
 ghost use Rattle.adr_law_journal.specs.Areas.{start_of, window};
 ghost use Rattle.adr_law_journal.specs.Begun.{IsNamed};
@@ -11,23 +11,11 @@ ghost use Rattle.adr_journal.specs.Reached.{IsOwned, IsReached, IsLog};
 
 use crate::form::{AreaRead, FollowRefusal, Form, Owner};
 use crate::keeper::StartRefusal;
-use crate::recording::OPEN_GATE;
-use adr_state::{Log, State};
+use crate::layout::{FIRST_SLOT, OPEN_GATE, SECOND_SLOT, SELECTOR, SELECTS_SECOND, slot_of};
+use adr_state::{FIRST_AREA, Log, State};
 use adr_values::Failure;
 use adr_wire::Reader;
 use std::alloc::Global;
-
-/// The places behind the head, in bytes: the selector, both slots, and the first at which an area may stand.
-const SELECTOR: usize = 39;
-
-const FIRST_SLOT: usize = 40;
-
-const SECOND_SLOT: usize = 48;
-
-const FIRST_AREA: usize = 56;
-
-/// The selector that selects the second slot; every other one selects the first.
-const SELECTS_SECOND: u8 = 0xC3;
 
 /// An area whose records are read: whether the second slot selects it, its place and version, and the place of its
 /// first gate; places in bytes.
@@ -58,12 +46,10 @@ fn body_of(bytes: &[u8]) -> Option<&[u8]>
     Some(body)
 }
 
-fn damaged(place: usize) -> StartRefusal
+fn damaged(place: u64) -> StartRefusal
     ensures { result ≡ StartRefusal.Damaged place }
 {
-    StartRefusal::Damaged {
-        place: place as u64,
-    }
+    StartRefusal::Damaged { place }
 }
 
 /// Whose log it is, as its head says behind an open gate.
@@ -110,22 +96,23 @@ fn read_selected<F: Form>(bytes: &[u8]) -> Result<(bool, usize), StartRefusal>
     ensures refused { IsErrOf result StartRefusal.DiskFault → ⊥ }
     ensures settled { IsErrOf result (StartRefusal.NoMemory false) → ⊥ }
 {
-    if bytes.len() < FIRST_SLOT {
+    let len = bytes.len() as u64;
+    if len < FIRST_SLOT {
         return Err(damaged(SELECTOR));
     }
-    if bytes.len() < SECOND_SLOT {
+    if len < SECOND_SLOT {
         return Err(damaged(FIRST_SLOT));
     }
-    if bytes.len() < FIRST_AREA {
+    if len < FIRST_AREA {
         return Err(damaged(SECOND_SLOT));
     }
-    let second = bytes[SELECTOR] == SELECTS_SECOND;
-    let slot = if second { SECOND_SLOT } else { FIRST_SLOT };
-    let place = number_at(bytes, slot);
-    if place < FIRST_AREA as u64 {
+    let second = bytes[SELECTOR as usize] == SELECTS_SECOND;
+    let slot = slot_of(second);
+    let place = number_at(bytes, slot as usize);
+    if place < FIRST_AREA {
         return Err(damaged(slot));
     }
-    if place >= bytes.len() as u64 {
+    if place >= len {
         return Err(damaged(slot));
     }
     Ok((second, place as usize))
@@ -136,20 +123,14 @@ fn read_first<F: Form>(alloc: Global, bytes: &[u8]) -> Result<(State, Area), Sta
     requires { length bytes.now < 2 ^ 63 }
     ensures reached { IfOk result (λ r. IsReached F.head F.area F.following r.1.second r.1.place r.1.version r.1.first r.1.first bytes.now r.0) }
     ensures formed { IfOk result (λ r. F.is_formed r.0) }
-    ensures version { IfOk result (λ r. r.1.version ≤ log_version) }
+    ensures version { IfOk result (λ r. r.1.version ≤ area_version) }
     ensures apart { IfOk result (λ r. r.1.place + 6 ≤ r.1.first) }
     ensures damaged { IfErr result (λ e. IsDamageOf e (Some (start_of F.head F.area F.following bytes.now))) }
     ensures refused { IsErrOf result StartRefusal.DiskFault → ⊥ }
     ensures settled { IsErrOf result (StartRefusal.NoMemory false) → ⊥ }
 {
-    let owner = match read_owner::<F>(bytes) {
-        Ok(owner) => owner,
-        Err(refusal) => return Err(refusal),
-    };
-    let (second, place) = match read_selected::<F>(bytes) {
-        Ok(selected) => selected,
-        Err(refusal) => return Err(refusal),
-    };
+    let owner = read_owner::<F>(bytes)?;
+    let (second, place) = read_selected::<F>(bytes)?;
     match F::read_area(alloc, bytes, place, owner) {
         Ok(
             AreaRead {
@@ -195,11 +176,11 @@ fn take_record<F: Form>(
 {
     let (_, behind) = bytes.split_at(gate + 1);
     let Some(body) = body_of(behind) else {
-        return Err(damaged(gate));
+        return Err(damaged(gate as u64));
     };
     match F::follow(alloc, area.version, state, body) {
         Ok(()) => Ok(gate + 5 + body.len()),
-        Err(FollowRefusal::CannotFollow) => Err(damaged(gate)),
+        Err(FollowRefusal::CannotFollow) => Err(damaged(gate as u64)),
         Err(FollowRefusal::NoMemory) => Err(StartRefusal::NoMemory { settled: true }),
     }
 }
@@ -227,12 +208,9 @@ fn take_records<F: Form>(
         if bytes[gate] != OPEN_GATE {
             return Ok(gate + 1);
         }
-        gate = match take_record::<F>(alloc, state, bytes, area, gate) {
-            Ok(next) => next,
-            Err(refusal) => return Err(refusal),
-        };
+        gate = take_record::<F>(alloc, state, bytes, area, gate)?;
     }
-    Err(damaged(gate))
+    Err(damaged(gate as u64))
 }
 
 /// The state that a log leads to, and where the log stands.
@@ -241,27 +219,20 @@ pub fn replay<F: Form>(alloc: Global, bytes: &[u8]) -> Result<(State, Log), Star
     ensures rests { IfOk result (λ r. IsLog F.head F.area F.following bytes.now r.0 r.1) }
     ensures within { IfOk result (λ r. (r.1.first < r.1.log_end) × (r.1.log_end ≤ length bytes.now)) }
     ensures apart { IfOk result (λ r. r.1.place + 6 ≤ r.1.first) }
-    ensures version { IfOk result (λ r. r.1.version ≤ log_version) }
+    ensures version { IfOk result (λ r. r.1.version ≤ area_version) }
     ensures formed { IfOk result (λ r. F.is_formed r.0) }
     ensures damaged { IfErr result (λ e. IsDamageOf e (Some (start_of F.head F.area F.following bytes.now))) }
     ensures refused { IsErrOf result StartRefusal.DiskFault → ⊥ }
     ensures settled { IsErrOf result (StartRefusal.NoMemory false) → ⊥ }
 {
-    let (mut state, area) = match read_first::<F>(alloc, bytes) {
-        Ok(read) => read,
-        Err(refusal) => return Err(refusal),
-    };
-    match take_records::<F>(alloc, &mut state, bytes, area) {
-        Ok(end) => Ok((
-            state,
-            Log::found(
-                area.second,
-                area.place as u64,
-                area.version,
-                area.first as u64,
-                end as u64,
-            ),
-        )),
-        Err(refusal) => Err(refusal),
-    }
+    let (mut state, area) = read_first::<F>(alloc, bytes)?;
+    let end = take_records::<F>(alloc, &mut state, bytes, area)?;
+    let log = Log::found(
+        area.second,
+        area.place as u64,
+        area.version,
+        area.first as u64,
+        end as u64,
+    );
+    Ok((state, log))
 }

@@ -4,7 +4,7 @@ use Rattle.std.specs.Prelude.{nat_lt, ◌||◌, not}
 use Rattle.std.proofs.lemmas.Bool.{cases_lt, lt-ltb}
 use Rattle.adr_model.specs.Store.{Store}
 use Rattle.adr_model.specs.Change.{Change}
-use Rattle.adr_model.specs.Lengths.{Log, log_version, first_area, image_length, is_due, checkpointed}
+use Rattle.adr_model.specs.Lengths.{Log, area_version, first_area, image_length, is_due, checkpointed}
 use Rattle.adr_law_journal.specs.Areas.{IsFree, other_log}
 use Rattle.adr_law_journal.proofs.Counts.{enough, too_few}
 
@@ -18,19 +18,19 @@ free_place log s n is = ⊎_elim
     (cases_lt log.place (first_area + 7 + image_length s))
 
 -- and it becomes the next log
-pub next_area : (log : Log) (s : Store) (n : ℕ) → n ≡ 6 + image_length s → other_log log (checkpointed log s).place log_version n ≡ checkpointed log s
+pub next_area : (log : Log) (s : Store) (n : ℕ) → n ≡ 6 + image_length s → other_log log (checkpointed log s).place area_version n ≡ checkpointed log s
 next_area log s n is =
     let place = (checkpointed log s).place in
     let first_is : place + n ≡ place + 6 + image_length s = omega (arith, is) in
     let end_is : place + n + 1 ≡ place + 7 + image_length s = omega (arith, is) in
-    λ i. record { second = not log.second; place = place; version = log_version; first = first_is i; log_end = end_is i }
+    λ i. record { second = not log.second; place = place; version = area_version; first = first_is i; log_end = end_is i }
 
 -- where none is due, the log is of the version that is written
-pub written_now : (log : Log) (c : Change) → is_due log c ≡ false → log.version ≤ log_version → log.version ≡ log_version
+pub written_now : (log : Log) (c : Change) → is_due log c ≡ false → log.version ≤ area_version → log.version ≡ area_version
 written_now log c undue le = ⊎_elim
-    (λ (lt : log.version < log_version). absurd (cc (sym (lt-ltb log.version log_version lt) ∙ second_of _ (nat_lt log.version log_version) undue)))
-    (λ (ge : log_version ≤ log.version). omega (arith, le, ge))
-    (cases_lt log.version log_version)
+    (λ (lt : log.version < area_version). absurd (cc (sym (lt-ltb log.version area_version lt) ∙ second_of _ (nat_lt log.version area_version) undue)))
+    (λ (ge : area_version ≤ log.version). omega (arith, le, ge))
+    (cases_lt log.version area_version)
   where
     second_of : (a b : Bool) → (a || b) ≡ false → b ≡ false
     second_of true b is = absurd (cc is)

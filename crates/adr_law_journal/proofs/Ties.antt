@@ -13,7 +13,7 @@ use Rattle.adr_disk.proofs.Writes.{length-torn_half}
 use Rattle.adr_disk.proofs.Outcomes.{IsImage-left_by}
 use Rattle.adr_model.specs.Store.{State}
 use Rattle.adr_model.specs.Change.{after}
-use Rattle.adr_model.specs.Lengths.{Log, log_version, change_length, is_due, checkpointed, log_after}
+use Rattle.adr_model.specs.Lengths.{Log, area_version, change_length, is_due, checkpointed, log_after}
 use Rattle.adr_disk.specs.declared.memory.Plan.{Plan}
 use Rattle.adr_model.specs.Replica.{Pending, Failed, Replica, Device, Book, Went, Passed, Met, went, behind, moved, moves_of_commit, moves_of_start, standing_after, plan_after, logs_of_record, logs_of_checkpoint, logs_of_start, torn_log, recorded_on, checkpointed_on, commit_goes, device_after_commit}
 use Rattle.adr_law_journal.specs.Log.{open_gate, record_of}
@@ -247,7 +247,7 @@ module _ {H : Type 0} (l : Layout H State) (book : Book) (r : Replica) (p : Pend
     free : IsFree log mid_log.place (length area.image + 1)
     free = free_place log r.safe.store (length area.image + 1) (omega (arith, area.is_long))
 
-    other_is : other_log log mid_log.place log_version (length area.image) ≡ mid_log
+    other_is : other_log log mid_log.place area_version (length area.image) ≡ mid_log
     other_is = next_area log r.safe.store (length area.image) area.is_long
 
     goes_due : (g : Went) → went old.plan 5 ≡ g → commit_goes r p ≡ record_goes g
@@ -268,8 +268,8 @@ module _ {H : Type 0} (l : Layout H State) (book : Book) (r : Replica) (p : Pend
 
     -- it was made, and then the record
     module _ (mid : DiskState) (ran : Checkpoints Does mid_log.place written mid_log.second old None mid) where
-      made : Selected l r.safe (other_log log mid_log.place log_version (length area.image)) old mid
-      made = selected l r.safe log mid_log.place log_version area.image old mid ready.running ready.rests ready.synced free area.tells area.near
+      made : Selected l r.safe (other_log log mid_log.place area_version (length area.image)) old mid
+      made = selected l r.safe log mid_log.place area_version area.image old mid ready.running ready.rests ready.synced free area.tells area.near
           (subst (λ (w : List ℕ). Checkpoints Does mid_log.place w mid_log.second old None mid) area.is ran)
 
       abbrev left : Option Plan
@@ -302,7 +302,7 @@ module _ {H : Type 0} (l : Layout H State) (book : Book) (r : Replica) (p : Pend
 
     pub checkpoint_failed : Checkpoints Does mid_log.place written mid_log.second old (Some failed_call) new → CommitLeads l book r p new (Some failed_call)
     checkpoint_failed ran =
-        let fails = unselected l r.safe log mid_log.place log_version area.image old new ready.running ready.rests ready.synced free area.tells area.near
+        let fails = unselected l r.safe log mid_log.place area_version area.image old new ready.running ready.rests ready.synced free area.tells area.near
         (subst (λ (w : List ℕ). Checkpoints Does mid_log.place w mid_log.second old (Some failed_call) new) area.is ran) in
         let g : Went = Met fails.place fails.mishap in
         let none : fails.place - 5 ≡ 0 = omega (arith, fails.within) in

@@ -6,7 +6,7 @@ use Rattle.adr_disk.specs.Disk.{Only}
 use Rattle.adr_disk.specs.Memory.{DiskState, read_of, IsImage, left_by}
 use Rattle.adr_model.specs.Store.{State}
 use Rattle.adr_model.specs.Change.{after}
-use Rattle.adr_model.specs.Lengths.{Log, log_version, image_length, change_length, checkpointed}
+use Rattle.adr_model.specs.Lengths.{Log, area_version, image_length, change_length, checkpointed}
 use Rattle.adr_model.specs.Replica.{Pending, Replica, Went, Failed, standing_after, plan_after, torn_log}
 use Rattle.adr_law_journal.specs.Replicas.{standing_of, IsRunning, read_found, safe_found}
 use Rattle.adr_law_journal.specs.Areas.{found, Started, TellsArea}
@@ -28,8 +28,8 @@ pub record IsReadyToCommit {H : Type 0} (l : Layout H State) (r : Replica) (p : 
   pub is_plan : disk.plan ≡ r.device.plan
   pub rests : Rests l r.safe r.device.safe_log (read_of disk.held.surface)
   pub synced : Only (read_of disk.held.surface) (IsImage disk.held.surface)
-  pub version : r.device.safe_log.version ≤ log_version
-  pub follows : l.following log_version r.safe body ≡ Some (after r.safe p.change)
+  pub version : r.device.safe_log.version ≤ area_version
+  pub follows : l.following area_version r.safe body ≡ Some (after r.safe p.change)
   pub is_long : length body ≡ change_length p.change
   pub fits : length body < 2 ^ 32
 
@@ -37,6 +37,6 @@ pub record IsReadyToCommit {H : Type 0} (l : Layout H State) (r : Replica) (p : 
 pub record IsNextArea {H : Type 0} (l : Layout H State) (r : Replica) (written : List ℕ) : Type 0 where
   pub image : List ℕ
   pub is : written ≡ image ++ 0 ∷ []
-  pub tells : TellsArea (l.area l.told) (checkpointed r.device.safe_log r.safe.store).place image log_version r.safe
+  pub tells : TellsArea (l.area l.told) (checkpointed r.device.safe_log r.safe.store).place image area_version r.safe
   pub is_long : length image ≡ 6 + image_length r.safe.store
   pub near : (checkpointed r.device.safe_log r.safe.store).place < 2 ^ 64

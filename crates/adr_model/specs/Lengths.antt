@@ -37,8 +37,8 @@ pub record Log : Type 0 where
   pub log_end : ℕ
 
 -- the version of the areas that are written
-abbrev pub log_version : ℕ
-log_version = 1
+abbrev pub area_version : ℕ
+area_version = 1
 
 -- the most bytes of a log: 8 GiB; and images and records are shorter than this
 abbrev pub log_limit : ℕ
@@ -54,7 +54,7 @@ first_area = 56
 -- an area without records: its version, a length and the image, and then a gate
 abbrev pub area_at : Bool → ℕ → Store → Log
 area_at second place s =
-    record { second = second; place = place; version = log_version; first = place + 6 + image_length s; log_end = place + 7 + image_length s }
+    record { second = second; place = place; version = area_version; first = place + 6 + image_length s; log_end = place + 7 + image_length s }
 
 -- the log on a new disk
 abbrev pub new_log : State → Log
@@ -77,7 +77,7 @@ record_bytes l = l.log_end - (l.first + 1)
 
 -- whether a checkpoint comes before a change: there are records, and with this one they would be 64 KiB longer than the image; or the area is of an earlier version
 abbrev pub is_due : Log → Change → Bool
-is_due l c = (nat_lt 0 (record_bytes l) && nat_lt (image_bytes l + 65536) (record_bytes l + 5 + change_length c)) || nat_lt l.version log_version
+is_due l c = (nat_lt 0 (record_bytes l) && nat_lt (image_bytes l + 65536) (record_bytes l + 5 + change_length c)) || nat_lt l.version area_version
 
 -- the log after a checkpoint: a new area in the other slot, before the live one where there is room, else behind it
 abbrev pub checkpointed : Log → Store → Log

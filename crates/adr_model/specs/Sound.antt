@@ -16,7 +16,7 @@ use Rattle.adr_model.specs.Change.{Item, Change, updates_written, after}
 use Rattle.adr_model.specs.LocalLog.{LocalLog, no_log, last_usn, rows_at, IsBoundary, IsKept, IsOrdered, IsBelow, WatermarkHolds}
 use Rattle.adr_model.specs.Serve.{Request, Reply}
 use Rattle.adr_model.specs.Given.{IsWellGiven}
-use Rattle.adr_model.specs.Lengths.{Log, log_limit, log_version, log_after}
+use Rattle.adr_model.specs.Lengths.{Log, log_limit, area_version, log_after}
 use Rattle.adr_model.specs.Spelled.{SayOfTheirKeys, IsSpelledReply}
 use Rattle.adr_model.specs.Take.{is_birth}
 use Rattle.adr_model.specs.Formed.{AreRising, AreFormedRows, IsFormedStore, IsFormed, IsClosed}
@@ -226,7 +226,7 @@ pub record IsUnsettled (r : Replica) (p : Pending) : Type 0 where
 
 -- a log of the version that is written, within the limit
 pub record IsOrderlyLog (l : Log) : Type 0 where
-  pub version : l.version ≡ log_version
+  pub version : l.version ≡ area_version
   pub within : l.log_end ≤ log_limit
 
 -- both states are orderly, and so are both logs. A controller that is up is settled, with one log, and any other is, or keeps a change

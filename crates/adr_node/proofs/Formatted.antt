@@ -1,5 +1,5 @@
 -- What a format leaves of a keeper, and of the disk below it.
-use Rattle.std.proofs.Common.{◌≡◌, ◌⊎◌, ◌<◌, ◌≤◌, ⊎_elim, inl, inr, refl, sym, ap, ◌∙◌, subst, ℕ, ◌↔◌, List, true, false, Option, Some, None, IfSome, IsSome, Ok, Err, Result, arith}
+use Rattle.std.proofs.Common.{◌≡◌, ◌⊎◌, ◌<◌, ◌≤◌, ⊎_elim, inl, inr, refl, sym, ap, subst, ℕ, ◌↔◌, List, true, false, Option, Some, None, IfSome, IsSome, Ok, Err, Result, arith}
 use Rattle.std.specs.Option.{option_map}
 use Rattle.adr_io.specs.declared.Fault.{Fault}
 use Rattle.adr_io.specs.declared.Fault.TheVariants.{Failed, NoMemory}
@@ -8,19 +8,21 @@ use Rattle.adr_disk.specs.declared.disk.Disk.{Ghosts as DiskGhosts}
 use Rattle.adr_disk.proofs.Moments.{joined, weakened}
 use Rattle.adr_model.specs.Lengths.{area_fits, new_log}
 use Rattle.adr_model.specs.Store.{State}
-use Rattle.adr_law_journal.specs.Areas.{Found, Started, found}
+use Rattle.adr_law_journal.specs.Areas.{Found, Started, found, start_of}
 use Rattle.adr_journal.specs.Ended.{IsNewOrNone}
 use Rattle.adr_journal.specs.declared.keeper.Keeper.{Ghosts as KeeperGhosts}
 use Rattle.adr_journal.specs.declared.keeper.KeeperRefusal.{KeeperRefusal}
 use Rattle.adr_journal.specs.declared.keeper.KeeperRefusal.TheVariants as keeps
 use Rattle.adr_controller.specs.Running.{IsInOrder, Running}
-use Rattle.adr_node.specs.Seen.{Seen, of_disk, of_keeper, Mirrors}
+use Rattle.adr_node.specs.Seen.{FindsAsBefore, Seen, of_disk, of_keeper, Mirrors}
+use Rattle.adr_records.specs.Head.{area_at, front_at}
+use Rattle.adr_records.specs.Body.{following_in}
 use Rattle.adr_node.specs.Formats.{EndsFormat, Formats}
 use Rattle.adr_node.specs.Makes.{BeforeOrBegun, Begins}
 use Rattle.adr_node.specs.declared.ended.Refusal.TheVariants.{NotEmpty, Image, Adoption, Full}
 use Rattle.adr_node.specs.declared.making.Unmade.{Unmade}
 use Rattle.adr_node.specs.declared.making.Unmade.TheVariants as unmade
-use Rattle.adr_node.proofs.Mirrored.{leaves_over}
+use Rattle.adr_node.proofs.Mirrored.{as_before_over, as_before_twice, leaves_over}
 
 -- what is told may be weakened
 pub if_weaker : {A : Type 0} (o : Option A) (P Q : A → Type 0) → ((x : A) → P x → Q x) → IfSome o P → IfSome o Q
@@ -62,7 +64,7 @@ module _ {K T : Type 0} (k : KeeperGhosts K) (s : State) (old : K) where
   pub formats_err : (new : K) (refusal : KeeperRefusal) (e : Unmade)
       → (refusal ≡ keeps.DiskFault) ⊎ ((refusal ≡ keeps.Full) ⊎ (refusal ≡ keeps.NoMemory))
       → (refusal ≡ keeps.DiskFault → e ≡ unmade.DiskFault) → (refusal ≡ keeps.Full → e ≡ unmade.Refused Full) → (refusal ≡ keeps.NoMemory → e ≡ unmade.NoMemory)
-      → (refusal ≡ keeps.Full → (new ≡ old) × (area_fits (new_log s) s.store ≡ false)) → (refusal ≡ keeps.DiskFault → k.faults old < k.faults new) → (refusal ≡ keeps.NoMemory → k.told new ≡ k.told old)
+      → (refusal ≡ keeps.Full → FindsAsBefore (of_keeper k) old new × (area_fits (new_log s) s.store ≡ false)) → (refusal ≡ keeps.DiskFault → k.faults old < k.faults new) → (refusal ≡ keeps.NoMemory → FindsAsBefore (of_keeper k) old new)
       → k.faults old ≤ k.faults new → (IsSome (k.told new) ↔ IsSome (k.told old)) → IfSome (k.told old) (λ _. LeavesOnly k.moment k.left_since old new (IsNewOrNone s)) → IfSome (k.told old) (λ _. Among (IsNewOrNone s) (k.may_leave new))
       → Formats (of_keeper k) s old new (let how : Result T Unmade = Err e in how)
   formats_err new refusal e which of_fault of_full of_none full fault none later both moments left =
@@ -70,7 +72,7 @@ module _ {K T : Type 0} (k : KeeperGhosts K) (s : State) (old : K) where
       record {
         ends =
             ⊎_elim (λ is. subst P (sym (of_fault is)) (fault is))
-            (λ rest. ⊎_elim (λ is. subst P (sym (of_full is)) ((full is).1, ap k.told (full is).0)) (λ is. subst P (sym (of_none is)) (none is)) rest) which;
+            (λ rest. ⊎_elim (λ is. subst P (sym (of_full is)) ((full is).1, (full is).0)) (λ is. subst P (sym (of_none is)) (none is)) rest) which;
         later = later;
         still_told = both;
         any_moment = moments;
@@ -85,14 +87,14 @@ module _ {D E T : Type 0} (d : Seen D) (e : Seen E) (s : State) (old new : D) (f
         subst (λ (o : Option (Started State)). IfSome o (λ t. (t ≡ Ok f) × Among (λ t. t ≡ Ok f) (d.may_leave new))) (sym last.told)
             (if_weaker (e.told to) _ _ (λ t is. (is.0, λ g left. is.1 g (last.left g left))) ends.1),
       )
-  ends_over (Err (unmade.Refused Full)) ends = (ends.0, last.told ∙ ends.1 ∙ first.told)
+  ends_over (Err (unmade.Refused Full)) ends = (ends.0, as_before_over d e old new from to first last ends.1)
   ends_over (Err (unmade.Refused NotEmpty)) ends = ends
   ends_over (Err (unmade.Refused (Image why))) ends = ends
   ends_over (Err (unmade.Refused (Adoption why))) ends = ends
   ends_over (Err unmade.ReadFault) ends = ends
   ends_over (Err unmade.DiskFault) ends = omega (arith, first.faults, last.faults, ends)
   ends_over (Err unmade.FreshFault) ends = ends
-  ends_over (Err unmade.NoMemory) ends = last.told ∙ ends ∙ first.told
+  ends_over (Err unmade.NoMemory) ends = as_before_over d e old new from to first last ends
 
   pub formats_over : (how : Result T Unmade) → Formats e s from to how → Formats d s old new how
   formats_over how f = record {
@@ -109,21 +111,21 @@ module _ {D E T : Type 0} (d : Seen D) (e : Seen E) (s : State) (old new : D) (f
         (if_weaker (e.told from) _ _ (λ t among f left. among f (last.left f left)) f.left);
   }
 
--- what was done behind a call that left what a start finds
-pub ends_behind : {D T : Type 0} (d : Seen D) (s : State) (old mid new : D) (how : Result T Unmade) → d.told mid ≡ d.told old → d.faults old ≤ d.faults mid → EndsFormat d s mid new how → EndsFormat d s old new how
+-- what was done behind a call that left what a start finds, also behind a crash
+pub ends_behind : {D T : Type 0} (d : Seen D) (s : State) (old mid new : D) (how : Result T Unmade) → FindsAsBefore d old mid → d.faults old ≤ d.faults mid → EndsFormat d s mid new how → EndsFormat d s old new how
 ends_behind d s old mid new (Ok done) same later ends = ends
-ends_behind d s old mid new (Err (unmade.Refused Full)) same later ends = (ends.0, ends.1 ∙ same)
+ends_behind d s old mid new (Err (unmade.Refused Full)) same later ends = (ends.0, as_before_twice d old mid new same ends.1)
 ends_behind d s old mid new (Err (unmade.Refused NotEmpty)) same later ends = ends
 ends_behind d s old mid new (Err (unmade.Refused (Image why))) same later ends = ends
 ends_behind d s old mid new (Err (unmade.Refused (Adoption why))) same later ends = ends
 ends_behind d s old mid new (Err unmade.ReadFault) same later ends = ends
 ends_behind d s old mid new (Err unmade.DiskFault) same later ends = omega (arith, later, ends)
 ends_behind d s old mid new (Err unmade.FreshFault) same later ends = ends
-ends_behind d s old mid new (Err unmade.NoMemory) same later ends = ends ∙ same
+ends_behind d s old mid new (Err unmade.NoMemory) same later ends = as_before_twice d old mid new same ends
 
 -- and what ended there
 pub ends_short : {D : Type 0} (T : Type 0) (d : Seen D) (s : State) (old mid : D) (fault : Fault) (e : Unmade) → (fault ≡ Failed → e ≡ unmade.DiskFault) → (fault ≡ NoMemory → e ≡ unmade.NoMemory)
-    → (fault ≡ Failed → d.faults old < d.faults mid) → (fault ≡ NoMemory → d.told mid ≡ d.told old) → EndsFormat d s old mid (let how : Result T Unmade = Err e in how)
+    → (fault ≡ Failed → d.faults old < d.faults mid) → (fault ≡ NoMemory → FindsAsBefore d old mid) → EndsFormat d s old mid (let how : Result T Unmade = Err e in how)
 ends_short T d s old mid Failed e of_failed of_none counts same = subst (λ (e : Unmade). EndsFormat d s old mid (let how : Result T Unmade = Err e in how)) (sym (of_failed refl)) (counts refl)
 ends_short T d s old mid NoMemory e of_failed of_none counts same = subst (λ (e : Unmade). EndsFormat d s old mid (let how : Result T Unmade = Err e in how)) (sym (of_none refl)) (same refl)
 
@@ -137,6 +139,9 @@ always (Some a) x = x
 
 -- ---- the sync before it
 
+pub is_left : {D : Type 0} (d : DiskGhosts D) (old new : D) → Among (d.may_leave old) (d.may_leave new) → Among ((of_disk d).may_leave old) ((of_disk d).may_leave new)
+is_left d old new among f left = (left.0, among left.0 left.1, left.2)
+
 module _ {D : Type 0} (d : DiskGhosts D) (only_now : (disk : D) (bytes : List ℕ) → d.left_since disk (d.moment disk) bytes → d.may_leave disk bytes) where
   -- a sync leaves what might have been left before it
   pub synced_leaves : (old new : D) → Elapses (d.moment old) (d.moment new) (d.left_since old) (d.left_since new) (d.may_leave old)
@@ -147,8 +152,14 @@ module _ {D : Type 0} (d : DiskGhosts D) (only_now : (disk : D) (bytes : List �
     before = λ t f le left. ⊎_elim (λ past. inl (left.0, past, left.2)) (λ now. inr (left.0, now, left.2)) (time.nothing_else t left.0 le left.1);
   }
 
-pub is_left : {D : Type 0} (d : DiskGhosts D) (old new : D) → Among (d.may_leave old) (d.may_leave new) → Among ((of_disk d).may_leave old) ((of_disk d).may_leave new)
-is_left d old new among f left = (left.0, among left.0 left.1, left.2)
+  -- nor does it change what a start finds
+  pub synced_as_before : (old new : D) → d.content new ≡ d.content old → Elapses (d.moment old) (d.moment new) (d.left_since old) (d.left_since new) (d.may_leave old)
+      → Among (d.may_leave old) (d.may_leave new) → FindsAsBefore (of_disk d) old new
+  synced_as_before old new same time left = record {
+    told = ap (option_map (start_of front_at area_at following_in)) same;
+    any_moment = synced_leaves old new time;
+    left = is_left d old new left;
+  }
 
 module _ {D : Type 0} (d : DiskGhosts D) (old mid : D) (s : State) (first : LeavesOnly d.moment (of_disk d).left_since old mid ((of_disk d).may_leave old)) (left : Among ((of_disk d).may_leave old) ((of_disk d).may_leave mid)) where
   -- it was cut short before

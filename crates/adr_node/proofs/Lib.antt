@@ -4,3 +4,4 @@ pub mod Started
 pub mod Formatted
 pub mod Made
 pub mod Telling
+pub mod Reading

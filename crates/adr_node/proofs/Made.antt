@@ -8,10 +8,10 @@ use Rattle.adr_model.specs.Store.{State, empty_state}
 use Rattle.adr_law_journal.specs.Areas.{Started, start_of}
 use Rattle.adr_records.specs.Head.{area_at, front_at}
 use Rattle.adr_records.specs.Body.{following_in}
-use Rattle.adr_node.specs.Seen.{Mirrors, of_disk}
+use Rattle.adr_node.specs.Seen.{FindsAsBefore, Mirrors, Untouched, of_disk}
 use Rattle.adr_node.specs.Formats.{EndsFormat}
 use Rattle.adr_model.specs.Update.{Identifier}
-use Rattle.adr_node.specs.Makes.{Adopts, BeforeOrBegun, Begins, HasNone, IsVerdict, MadeOn, Makes, TellsVerdict, Verdict, verdict_of}
+use Rattle.adr_node.specs.Makes.{Adopts, BeforeOrBegun, Begins, HasNone, IsVerdict, LeavesRefused, MadeOn, Makes, TellsVerdict, Verdict, verdict_of}
 use Rattle.adr_node.specs.declared.ended.Creation.{Creation}
 use Rattle.adr_node.specs.declared.ended.Creation.TheVariants as installs
 use Rattle.adr_node.specs.declared.ended.Refusal.{Refusal}
@@ -19,12 +19,24 @@ use Rattle.adr_node.specs.declared.ended.Refusal.TheVariants.{NotEmpty, Image, A
 use Rattle.adr_node.specs.declared.making.Unmade.{Unmade}
 use Rattle.adr_node.specs.declared.making.Unmade.TheVariants as unmade
 use Rattle.adr_node.proofs.Formatted.{always, as_told, if_weaker, is_left}
-use Rattle.adr_node.proofs.Mirrored.{kept, kept_leaves, leaves_over}
+use Rattle.adr_node.proofs.Mirrored.{as_before_twice, kept, kept_as_before, kept_leaves, leaves_over}
 
 module _ {D : Type 0} (d : DiskGhosts D) (only_now : (disk : D) (bytes : List ℕ) → d.left_since disk (d.moment disk) bytes → d.may_leave disk bytes) (comes : Verdict → Type 0) (old mid : D)
     (keeps : Keeps d.content d.may_leave d.moment d.left_since old mid) (later : d.faults old ≤ d.faults mid) where
   same_told : (of_disk d).told mid ≡ (of_disk d).told old
   same_told = ap (option_map (start_of front_at area_at following_in)) keeps.content_stays
+
+  untouched : Untouched d old mid
+  untouched = kept d old mid keeps later
+
+  as_before : FindsAsBefore (of_disk d) old mid
+  as_before = kept_as_before d only_now old mid keeps
+
+  leaves_refused : (why : Refusal) → LeavesRefused d old mid why
+  leaves_refused NotEmpty = untouched
+  leaves_refused (Image why) = untouched
+  leaves_refused (Adoption why) = untouched
+  leaves_refused Full = as_before
 
   pub not_begun : Begins (of_disk d) None old mid
   not_begun = record {
@@ -37,15 +49,15 @@ module _ {D : Type 0} (d : DiskGhosts D) (only_now : (disk : D) (bytes : List �
   -- the command ended before anything was to be written to the disk
   pub unmade_on : {T : Type 0} (e : Unmade) → ((why : Refusal) → e ≡ unmade.Refused why → IsVerdict d comes old (Err why)) → (e ≡ unmade.DiskFault → d.faults old < d.faults mid) → MadeOn d comes old mid (let how : Result T Unmade = Err e in how)
   unmade_on (unmade.Refused why) refused fault =
-      record { state = empty_state [] []; is_so = refused why refl; leaves = same_told; disk_fault = λ is. absurd (cc is); stays = λ none passed. same_told; begun = None; comes_so = tt; begins = not_begun }
+      record { state = empty_state [] []; is_so = refused why refl; leaves = leaves_refused why; disk_fault = λ is. absurd (cc is); stays = λ none passed. as_before; begun = None; comes_so = tt; on_empty = tt; begins = not_begun; unbegun = λ is. untouched }
   unmade_on unmade.ReadFault refused fault =
-      record { state = empty_state [] []; is_so = tt; leaves = tt; disk_fault = λ is. absurd (cc is); stays = λ none passed. same_told; begun = None; comes_so = tt; begins = not_begun }
+      record { state = empty_state [] []; is_so = tt; leaves = tt; disk_fault = λ is. absurd (cc is); stays = λ none passed. as_before; begun = None; comes_so = tt; on_empty = tt; begins = not_begun; unbegun = λ is. untouched }
   unmade_on unmade.DiskFault refused fault =
-      record { state = empty_state [] []; is_so = tt; leaves = tt; disk_fault = λ is. fault refl; stays = λ none passed. same_told; begun = None; comes_so = tt; begins = not_begun }
+      record { state = empty_state [] []; is_so = tt; leaves = tt; disk_fault = λ is. fault refl; stays = λ none passed. as_before; begun = None; comes_so = tt; on_empty = tt; begins = not_begun; unbegun = λ is. untouched }
   unmade_on unmade.FreshFault refused fault =
-      record { state = empty_state [] []; is_so = tt; leaves = tt; disk_fault = λ is. absurd (cc is); stays = λ none passed. same_told; begun = None; comes_so = tt; begins = not_begun }
+      record { state = empty_state [] []; is_so = tt; leaves = tt; disk_fault = λ is. absurd (cc is); stays = λ none passed. as_before; begun = None; comes_so = tt; on_empty = tt; begins = not_begun; unbegun = λ is. untouched }
   unmade_on unmade.NoMemory refused fault =
-      record { state = empty_state [] []; is_so = tt; leaves = tt; disk_fault = λ is. absurd (cc is); stays = λ none passed. same_told; begun = None; comes_so = tt; begins = not_begun }
+      record { state = empty_state [] []; is_so = tt; leaves = tt; disk_fault = λ is. absurd (cc is); stays = λ none passed. as_before; begun = None; comes_so = tt; on_empty = tt; begins = not_begun; unbegun = λ is. untouched }
 
   module _ (new : D) (s : State) (none : HasNone d old) (is : comes (Ok s)) (b : Begins (of_disk d) (Some s) mid new) where
     before_mid : Among (BeforeOrBegun (of_disk d) old (Some s)) (BeforeOrBegun (of_disk d) mid (Some s))
@@ -68,16 +80,16 @@ module _ {D : Type 0} (d : DiskGhosts D) (only_now : (disk : D) (bytes : List �
 
     -- the state was begun to be written
     pub made_on : {T : Type 0} (how : Result T Unmade) → EndsFormat (of_disk d) s mid new how → MadeOn d comes old new how
-    made_on (Ok done) ends = record { state = s; is_so = (none, is, ends.0); leaves = ends.1; disk_fault = λ e. absurd (cc e); stays = λ none passed. absurd (cc none); begun = Some s; comes_so = is; begins = begun_behind }
+    made_on (Ok done) ends = record { state = s; is_so = (none, is, ends.0); leaves = ends.1; disk_fault = λ e. absurd (cc e); stays = λ none passed. absurd (cc none); begun = Some s; comes_so = is; on_empty = none; begins = begun_behind; unbegun = λ e. absurd (cc e) }
     made_on (Err (unmade.Refused Full)) ends =
-        record { state = s; is_so = (none, (s, is, ends.0)); leaves = ends.1 ∙ same_told; disk_fault = λ e. absurd (cc e); stays = λ none passed. ends.1 ∙ same_told; begun = Some s; comes_so = is; begins = begun_behind }
+        record { state = s; is_so = (none, (s, is, ends.0)); leaves = as_before_twice (of_disk d) old mid new as_before ends.1; disk_fault = λ e. absurd (cc e); stays = λ none passed. as_before_twice (of_disk d) old mid new as_before ends.1; begun = Some s; comes_so = is; on_empty = none; begins = begun_behind; unbegun = λ e. absurd (cc e) }
     made_on (Err (unmade.Refused NotEmpty)) ends = absurd ends
     made_on (Err (unmade.Refused (Image why))) ends = absurd ends
     made_on (Err (unmade.Refused (Adoption why))) ends = absurd ends
     made_on (Err unmade.ReadFault) ends = absurd ends
-    made_on (Err unmade.DiskFault) ends = record { state = s; is_so = tt; leaves = tt; disk_fault = λ e. omega (arith, later, ends); stays = λ none passed. absurd (passed refl); begun = Some s; comes_so = is; begins = begun_behind }
+    made_on (Err unmade.DiskFault) ends = record { state = s; is_so = tt; leaves = tt; disk_fault = λ e. omega (arith, later, ends); stays = λ none passed. absurd (passed refl); begun = Some s; comes_so = is; on_empty = none; begins = begun_behind; unbegun = λ e. absurd (cc e) }
     made_on (Err unmade.FreshFault) ends = absurd ends
-    made_on (Err unmade.NoMemory) ends = record { state = s; is_so = tt; leaves = tt; disk_fault = λ e. absurd (cc e); stays = λ none passed. ends ∙ same_told; begun = Some s; comes_so = is; begins = begun_behind }
+    made_on (Err unmade.NoMemory) ends = record { state = s; is_so = tt; leaves = tt; disk_fault = λ e. absurd (cc e); stays = λ none passed. as_before_twice (of_disk d) old mid new as_before ends; begun = Some s; comes_so = is; on_empty = none; begins = begun_behind; unbegun = λ e. absurd (cc e) }
 
 -- the disk had bytes
 pub found_full : {D : Type 0} (d : DiskGhosts D) (comes : Verdict → Type 0) (old : D) (e : Unmade) (why : Refusal) → e ≡ unmade.Refused why
@@ -106,5 +118,7 @@ makes_told d k comes verb name old new before after made how m tells fault fault
   stays = λ none passed. m.stays none (λ is. passed (faulty is));
   begun = m.begun;
   comes_so = m.comes_so;
+  on_empty = m.on_empty;
   begins = m.begins;
+  unbegun = m.unbegun;
 }

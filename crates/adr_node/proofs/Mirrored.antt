@@ -3,14 +3,16 @@ use Rattle.std.proofs.Common.{◌≡◌, refl, sym, ap, ◌∙◌, subst, inl, i
 use Rattle.std.specs.Option.{option_map}
 use Rattle.adr_disk.specs.Disk.{Among, Keeps, LeavesOnly}
 use Rattle.adr_disk.specs.declared.disk.Disk.{Ghosts as DiskGhosts}
+use Rattle.adr_disk.proofs.Moments.{joined, started, weakened}
 use Rattle.adr_io.specs.declared.Sink.{Ghosts as SinkGhosts}
 use Rattle.adr_model.specs.Store.{State}
 use Rattle.adr_law_journal.specs.Areas.{Found, Started, start_of}
 use Rattle.adr_law_journal.specs.Kept.{Finds, FindsState}
 use Rattle.adr_law_journal.proofs.Told.{at_told, if_told}
+use Rattle.adr_journal.specs.declared.keeper.Keeper.{Ghosts as KeeperGhosts}
 use Rattle.adr_records.specs.Head.{area_at, front_at}
 use Rattle.adr_records.specs.Body.{following_in}
-use Rattle.adr_node.specs.Seen.{Seen, of_disk, Mirrors}
+use Rattle.adr_node.specs.Seen.{FindsAsBefore, Seen, of_disk, of_keeper, Mirrors}
 use Rattle.adr_node.specs.Begins.{EndsUnbegun, IsDamaged, IsHindered, IsUnbegun, StandsOn}
 use Rattle.adr_node.specs.Looks.{Due, Looks}
 use Rattle.adr_node.specs.declared.ended.Looked.{Looked}
@@ -57,6 +59,13 @@ module _ {D E : Type 0} (d : Seen D) (e : Seen E) (old new : D) (from to : E) (f
   still_over still was =
       subst (λ (o : Option (Started State)). IsSome o) (sym last.told) (still (subst (λ (o : Option (Started State)). IsSome o) (sym first.told) was))
 
+  pub as_before_over : FindsAsBefore e from to → FindsAsBefore d old new
+  as_before_over b = record {
+    told = same_over b.told;
+    any_moment = leaves_over (e.may_leave from) (d.may_leave old) first.left b.any_moment;
+    left = among_over b.left;
+  }
+
   pub stands_over : (f : Found State) → StandsOn e to f → StandsOn d new f
   stands_over f stands =
       if_told (d.told new) (λ t. (t ≡ Ok f) × Among (FindsState f.state) (d.may_leave new)) (λ t there.
@@ -97,6 +106,7 @@ module _ {D E : Type 0} (d : Seen D) (e : Seen E) (old new : D) (from to : E) (f
     disk_fault = λ is. (omega (arith, first.faults, last.faults, (l.disk_fault is).0), (l.disk_fault is).1);
     later = omega (arith, first.faults, last.faults, l.later);
     stays = λ no_fault. same_over (l.stays no_fault);
+    still_told = still_over l.still_told;
     any_moment = leaves_over (e.may_leave from) (d.may_leave old) first.left l.any_moment;
     left = among_over l.left;
   }
@@ -109,6 +119,42 @@ kept_leaves d only_now old new keeps = record {
   each = λ f left. (left.0, only_now old left.0 (keeps.past_stays (d.moment old) left.0 left.1), left.2);
   before = λ t f le left. inl (left.0, keeps.past_stays t left.0 left.1, left.2);
 }
+
+-- ---- a start finds what it found
+
+-- also behind what leaves it so
+pub as_before_twice : {D : Type 0} (d : Seen D) (old mid new : D) → FindsAsBefore d old mid → FindsAsBefore d mid new → FindsAsBefore d old new
+as_before_twice d old mid new first second = record {
+  told = second.told ∙ first.told;
+  any_moment = joined d.moment d.left_since old mid new (d.may_leave old) first.any_moment (weakened d.moment d.left_since mid new (d.may_leave mid) (d.may_leave old) first.left second.any_moment);
+  left = λ f may. first.left f (second.left f may);
+}
+
+-- where nothing changes
+pub kept_as_before : {D : Type 0} (d : DiskGhosts D) (only_now : (disk : D) (bytes : List ℕ) → d.left_since disk (d.moment disk) bytes → d.may_leave disk bytes) (old new : D)
+    → Keeps d.content d.may_leave d.moment d.left_since old new → FindsAsBefore (of_disk d) old new
+kept_as_before d only_now old new keeps = record {
+  told = ap (option_map (start_of front_at area_at following_in)) keeps.content_stays;
+  any_moment = kept_leaves d only_now old new keeps;
+  left = λ f left. (left.0, keeps.no_more left.0 left.1, left.2);
+}
+
+-- nor of a keeper
+module _ {K : Type 0} (k : KeeperGhosts K) (only_now : (x : K) (t : Started State) → k.left_since x (k.moment x) t → k.may_leave x t) where
+  pub keeper_as_before : (old new : K) → Keeps k.told k.may_leave k.moment k.left_since old new → FindsAsBefore (of_keeper k) old new
+  keeper_as_before old new keeps = record {
+    told = keeps.content_stays;
+    any_moment = record {
+      later = omega (arith, keeps.moment_stays);
+      each = λ f left. only_now old f (keeps.past_stays (k.moment old) f left);
+      before = λ t f le left. inl (keeps.past_stays t f left);
+    };
+    left = keeps.no_more;
+  }
+
+  pub keeper_itself : (old new : K) → new ≡ old → FindsAsBefore (of_keeper k) old new
+  keeper_itself old new is =
+      subst (λ (x : K). FindsAsBefore (of_keeper k) old x) (sym is) (record { told = refl; any_moment = started k.moment k.left_since old (k.may_leave old) (only_now old); left = λ f may. may })
 
 -- ---- a log on a disk
 

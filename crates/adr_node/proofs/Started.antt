@@ -151,6 +151,7 @@ module _ {D K : Type 0} (d : Seen D) (k : SinkGhosts K) (refuses : State → Boo
     disk_fault = λ is. let fault = fault_unseen why is in (u.disk_fault fault, silent_unseen u.found why u.ends.0 fault);
     later = u.disk_later;
     stays = stays_unseen u.found why u.ends.0;
+    still_told = u.still_told;
     any_moment = u.any_moment;
     left = u.ends.1;
   }
@@ -172,6 +173,7 @@ module _ {K S : Type 0} (k : KeeperGhosts K) (sink : SinkGhosts S) (refuses : St
         disk_fault = λ is. absurd (passed is);
         later = b.later;
         stays = λ no_fault. same_told (k.told old) (k.told c.keeper) there b.told b.started.told (law c.keeper at b.started.at (order.up b.started.state b.started.in_memory).0.running);
+        still_told = b.told.1;
         any_moment = b.any_moment;
         left = b.left;
       }

@@ -1,5 +1,5 @@
 -- What a command does that only looks at the controller on a disk, and writes something of it.
-use Rattle.std.specs.Prelude.{◌≡◌, ◌<◌, ◌≤◌, ℕ, List, ◌++◌, Bool, false, codes, if◌then◌else◌, Some, None, Option, Ok, Err, IfOk, IfSome}
+use Rattle.std.specs.Prelude.{◌≡◌, ◌<◌, ◌≤◌, ℕ, List, ◌++◌, Bool, false, codes, if◌then◌else◌, Some, None, Option, Ok, Err, IfOk, IfSome, IsSome}
 use Rattle.adr_io.specs.Told.{Adds, AddsFront}
 use Rattle.adr_io.specs.declared.Sink.{Ghosts as SinkGhosts}
 use Rattle.adr_disk.specs.Disk.{Among, LeavesOnly}
@@ -114,6 +114,8 @@ pub record Looks {D K : Type 0} (d : Seen D) (k : SinkGhosts K) (due : Started S
   pub later : d.faults old ≤ d.faults new
   -- but for such a fault, a start finds afterwards what it found
   pub stays : (how ≡ backed.DiskFault → ⊥) → d.told new ≡ d.told old
+  -- and a disk that tells what a start finds goes on telling it
+  pub still_told : IsSome (d.told old) → IsSome (d.told new)
   -- and behind a crash at any moment of the command, or from then on, nothing that it might not have found before
   pub any_moment : LeavesOnly d.moment d.left_since old new (d.may_leave old)
   pub left : Among (d.may_leave old) (d.may_leave new)

@@ -1,5 +1,5 @@
 -- What a command does that makes a controller on an empty disk.
-use Rattle.std.specs.Prelude.{◌≡◌, ◌<◌, ◌≤◌, ◌⊎◌, ◌↔◌, ℕ, List, [], ◌∷◌, true, false, take, Some, None, Option, Result, Ok, Err, IfErr, IfSome, IsErrOf, IsSome, OnOk}
+use Rattle.std.specs.Prelude.{◌≡◌, ◌<◌, ◌≤◌, ◌⊎◌, ◌↔◌, ℕ, List, [], ◌∷◌, true, false, take, drop, Some, None, Option, Result, Ok, Err, IfErr, IfSome, IsErrOf, IsSome, OnOk}
 use Rattle.adr_io.specs.Told.{Adds, AddsFront}
 use Rattle.adr_io.specs.declared.Sink.{Ghosts as SinkGhosts}
 use Rattle.adr_disk.specs.Disk.{Among, Keeps, LeavesOnly}
@@ -20,7 +20,7 @@ use Rattle.adr_journal.specs.Ended.{IsNewOrNone}
 use Rattle.adr_image.specs.Stored.{decoded}
 use Rattle.adr_answers.specs.Line.{line}
 use Rattle.adr_node.specs.Lines.{malformed_line, not_empty_line, refusal_line, version_line}
-use Rattle.adr_node.specs.Seen.{Seen, StandsNew, of_disk}
+use Rattle.adr_node.specs.Seen.{FindsAsBefore, Seen, StandsNew, Untouched, of_disk}
 use Rattle.adr_node.specs.declared.ended.Refusal.{Refusal}
 use Rattle.adr_node.specs.declared.ended.Refusal.TheVariants.{NotEmpty, Image, Adoption, Full}
 use Rattle.adr_node.specs.declared.ended.Creation.{Creation}
@@ -108,6 +108,42 @@ Adopts given text before after (Err (Image why)) = Says text (Err why) × (after
 Adopts given text before after (Err NotEmpty) = ⊥
 Adopts given text before after (Err Full) = ⊥
 
+-- ---- how much of a source is read
+
+-- a text was read to its end or the limit, where it is told
+abbrev pub IsReadWhole : Option (List ℕ) → Option (List ℕ) → Type 0
+IsReadWhole before after = IfSome before (λ text. after ≡ Some (drop image_limit text))
+
+-- or a front of that
+abbrev pub IsReadAtMost : Option (List ℕ) → Option (List ℕ) → Type 0
+IsReadAtMost before after = IfSome before (λ text. (n : ℕ) × (n ≤ image_limit) × (after ≡ Some (drop n text)))
+
+-- how much was read where a command ends so: nothing if the disk has bytes, the whole if it came beyond the reading; where a write
+-- or a call of the disk fails, one or the other
+abbrev pub ReadsSo : Option (List ℕ) → Option (List ℕ) → Creation → Type 0
+ReadsSo before after installs.Done = IsReadWhole before after
+ReadsSo before after (installs.Refused NotEmpty) = after ≡ before
+ReadsSo before after (installs.Refused (Image why)) = IsReadWhole before after
+ReadsSo before after (installs.Refused (Adoption why)) = IsReadWhole before after
+ReadsSo before after (installs.Refused Full) = IsReadWhole before after
+ReadsSo before after installs.ReadFault = Unit {0}
+ReadsSo before after installs.WriteFault = IsReadWhole before after ⊎ (after ≡ before)
+ReadsSo before after installs.DiskFault = IsReadWhole before after ⊎ (after ≡ before)
+ReadsSo before after installs.FreshFault = IsReadWhole before after
+ReadsSo before after installs.NoMemory = Unit {0}
+
+-- how a command ends by what was made, if its line is written
+abbrev pub ended_by : Unmade → Creation
+ended_by (unmade.Refused why) = installs.Refused why
+ended_by unmade.ReadFault = installs.ReadFault
+ended_by unmade.DiskFault = installs.DiskFault
+ended_by unmade.FreshFault = installs.FreshFault
+ended_by unmade.NoMemory = installs.NoMemory
+
+abbrev pub ended_as : {T : Type 0} → Result T Unmade → Creation
+ended_as (Ok _) = installs.Done
+ended_as (Err e) = ended_by e
+
 -- ---- what is left
 
 -- nothing stands on the disk, where it tells its bytes
@@ -152,11 +188,18 @@ pub record Begins {D : Type 0} (d : Seen D) (begun : Option State) (old new : D)
   pub any_moment : IfSome (d.told old) (λ _. LeavesOnly d.moment d.left_since old new (BeforeOrBegun d old begun))
   pub left : IfSome (d.told old) (λ _. Among (BeforeOrBegun d old begun) (d.may_leave new))
 
--- what a start finds then: the new state, also behind a crash; or behind a refusal what it found before
-abbrev pub LeavesVerdict : {D : Type 0} → Seen D → D → D → Option Verdict → Type 0
+-- what a refusal leaves: the disk as it was, or, since a log that would be too long is refused behind a sync, what a start finds
+abbrev pub LeavesRefused : {D : Type 0} → DiskGhosts D → D → D → Refusal → Type 0
+LeavesRefused d old new NotEmpty = Untouched d old new
+LeavesRefused d old new (Image why) = Untouched d old new
+LeavesRefused d old new (Adoption why) = Untouched d old new
+LeavesRefused d old new Full = FindsAsBefore (of_disk d) old new
+
+-- what a verdict leaves: a start finds the new state, also behind a crash; or there is a refusal
+abbrev pub LeavesVerdict : {D : Type 0} → DiskGhosts D → D → D → Option Verdict → Type 0
 LeavesVerdict d old new None = Unit {0}
-LeavesVerdict d old new (Some (Ok s)) = StandsNew d s new
-LeavesVerdict d old new (Some (Err why)) = d.told new ≡ d.told old
+LeavesVerdict d old new (Some (Ok s)) = StandsNew (of_disk d) s new
+LeavesVerdict d old new (Some (Err why)) = LeavesRefused d old new why
 
 -- the verdict of what was made on a disk: of this state, if it is there
 abbrev pub verdict_of : {T : Type 0} → State → Result T Unmade → Option Verdict
@@ -172,12 +215,14 @@ pub record MadeOn {D T : Type 0} (d : DiskGhosts D) (comes : Verdict → Type 0)
     : Type 0 where
   pub state : State
   pub is_so : IfSome (verdict_of state made) (IsVerdict d comes old)
-  pub leaves : LeavesVerdict (of_disk d) old new (verdict_of state made)
+  pub leaves : LeavesVerdict d old new (verdict_of state made)
   pub disk_fault : made ≡ Err unmade.DiskFault → d.faults old < d.faults new
-  pub stays : verdict_of state made ≡ None → (made ≡ Err unmade.DiskFault → ⊥) → (of_disk d).told new ≡ (of_disk d).told old
+  pub stays : verdict_of state made ≡ None → (made ≡ Err unmade.DiskFault → ⊥) → FindsAsBefore (of_disk d) old new
   pub begun : Option State
   pub comes_so : IfSome begun (λ s. comes (Ok s))
+  pub on_empty : IfSome begun (λ _. HasNone d old)
   pub begins : Begins (of_disk d) begun old new
+  pub unbegun : begun ≡ None → Untouched d old new
 
 -- A controller is made on an empty disk, of a state that comes so, and its line is written.
 pub record Makes {D K : Type 0} (d : DiskGhosts D) (k : SinkGhosts K) (comes : Verdict → Type 0) (verb name : List ℕ)
@@ -186,11 +231,13 @@ pub record Makes {D K : Type 0} (d : DiskGhosts D) (k : SinkGhosts K) (comes : V
   pub verdict : Option Verdict
   pub is_so : IfSome verdict (IsVerdict d comes old)
   pub tells : TellsVerdict k verb name verdict before after how
-  pub leaves : LeavesVerdict (of_disk d) old new verdict
+  pub leaves : LeavesVerdict d old new verdict
   pub disk_fault : how ≡ installs.DiskFault → d.faults old < d.faults new
-  -- where it didn't come so far, a start finds what it found, but for such a fault
-  pub stays : verdict ≡ None → (how ≡ installs.DiskFault → ⊥) → (of_disk d).told new ≡ (of_disk d).told old
-  -- the state that was begun to be written, if one was
+  -- where it didn't come so far, a start finds what it found, also behind a crash, but for such a fault
+  pub stays : verdict ≡ None → (how ≡ installs.DiskFault → ⊥) → FindsAsBefore (of_disk d) old new
+  -- the state that was begun to be written, if one was, and only over nothing; else nothing has changed of the disk
   pub begun : Option State
   pub comes_so : IfSome begun (λ s. comes (Ok s))
+  pub on_empty : IfSome begun (λ _. HasNone d old)
   pub begins : Begins (of_disk d) begun old new
+  pub unbegun : begun ≡ None → Untouched d old new

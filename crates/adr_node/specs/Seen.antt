@@ -1,7 +1,7 @@
 -- What is seen of a controller's disk: what a start would find, and what one may find behind a crash.
 use Rattle.std.specs.Prelude.{◌≡◌, ◌≤◌, ℕ, List, Option, Ok, IfSome}
 use Rattle.std.specs.Option.{option_map}
-use Rattle.adr_disk.specs.Disk.{Among}
+use Rattle.adr_disk.specs.Disk.{Among, LeavesOnly}
 use Rattle.adr_disk.specs.declared.disk.Disk.{Ghosts as DiskGhosts}
 use Rattle.adr_model.specs.Store.{State}
 use Rattle.adr_model.specs.Lengths.{new_log}
@@ -48,6 +48,12 @@ pub record Mirrors {D E : Type 0} (d : Seen D) (x : D) (e : Seen E) (y : E) : Ty
 -- nothing has changed of a disk
 abbrev pub Untouched : {D : Type 0} → DiskGhosts D → D → D → Type 0
 Untouched d old new = Mirrors (of_disk d) old (of_disk d) new
+
+-- A start finds what it found, and behind a crash at any moment, or from then on, nothing that it might not have found before.
+pub record FindsAsBefore {D : Type 0} (d : Seen D) (old new : D) : Type 0 where
+  pub told : d.told new ≡ d.told old
+  pub any_moment : LeavesOnly d.moment d.left_since old new (d.may_leave old)
+  pub left : Among (d.may_leave old) (d.may_leave new)
 
 -- a start finds this state on a new log, also behind a crash, where what it finds is told
 abbrev pub StandsNew : {D : Type 0} → Seen D → State → D → Type 0

@@ -1,7 +1,7 @@
 //! `install` and `restore`: a controller of an image, on an empty disk.
 
 ghost use Rattle.std.specs.Prelude.{◌≡◌, ◌<◌, ◌≤◌};
-ghost use Rattle.adr_node.specs.Makes.{Adopts, Makes};
+ghost use Rattle.adr_node.specs.Makes.{Adopts, IsReadAtMost, Makes, ReadsSo};
 ghost use Rattle.adr_node.specs.Seen.{Untouched};
 
 use crate::ended::{Creation, Refusal};
@@ -30,6 +30,10 @@ pub fn adopt<D: Disk, S: Source, F: Fresh, K: Sink>(
     ensures makes { let comes = Adopts given (S.left source.old) (F.identifiers fresh.old) (F.identifiers fresh.new) in
         Makes D.Disk K.Sink comes verb.now name.now disk result.1 sink.old sink.new result.0 }
     ensures write_later { K.faults sink.old ≤ K.faults sink.new }
+
+    // Of the source no more is read than an image may have, 2^32 bytes; and so much, or all, where the command came further.
+    ensures read { IsReadAtMost (S.left source.old) (S.left source.new) }
+    ensures read_whole { ReadsSo (S.left source.old) (S.left source.new) result.0 }
 
     // Where the image can't be read, or no identifier is given, nothing has changed of the disk.
     ensures read_fault { result.0 ≡ Creation.ReadFault

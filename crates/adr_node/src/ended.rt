@@ -43,7 +43,7 @@ pub enum Refusal {
     Image(DecodeRefusal),
     /// The image can't be adopted.
     Adoption(AdoptRefusal),
-    /// The log would end beyond its limit.
+    /// The log would end beyond its limit, or its image would be too long for its length.
     Full,
 }
 

@@ -1,9 +1,9 @@
 //! A controller of the image that a source gives.
 
-ghost use Rattle.std.specs.Prelude.{◌≡◌, ◌⊎◌, ◌<◌, ◌≤◌, take, Ok, Err, IfOk, IfErr, IfSome, IsErrOf};
+ghost use Rattle.std.specs.Prelude.{◌≡◌, ◌⊎◌, ◌<◌, ◌≤◌, take, Ok, Err, IfOk, IfErr, IfSome, IsErrOf, OnOk};
 ghost use Rattle.adr_model.specs.Collect.{adopt};
 ghost use Rattle.adr_image.specs.Stored.{decoded};
-ghost use Rattle.adr_node.specs.Makes.{Adopts, AdoptsImage, MadeOn, Says, image_limit};
+ghost use Rattle.adr_node.specs.Makes.{Adopts, AdoptsImage, IsReadAtMost, IsReadWhole, MadeOn, ReadsSo, Says, ended_as, image_limit};
 ghost use Rattle.adr_node.specs.Seen.{Untouched};
 ghost use Rattle.adr_node.specs.declared.ended.Refusal.{Refusal};
 ghost use Rattle.adr_records.specs.Logged.{MayBegin};
@@ -31,6 +31,8 @@ const IMAGE_LIMIT: usize = 4_294_967_296;
 /// The bytes of an image.
 fn read_bytes<S: Source>(alloc: Global, source: &mut S) -> Result<Vec<u8>, Unmade>
     ensures read { IfOk result (λ bytes. IfSome (S.left source.old) (λ text. bytes.items ≡ take image_limit text)) }
+    ensures whole { OnOk result (IsReadWhole (S.left source.old) (S.left source.new)) }
+    ensures at_most { IsReadAtMost (S.left source.old) (S.left source.new) }
     ensures why { IfErr result (λ e. (e ≡ Unmade.ReadFault) ⊎ (e ≡ Unmade.NoMemory)) }
     ensures fault { IsErrOf result Unmade.ReadFault → S.faults source.old < S.faults source.new }
     ensures later { S.faults source.old ≤ S.faults source.new }
@@ -61,6 +63,8 @@ fn read_image<S: Source>(alloc: Global, source: &mut S) -> Result<Dormant, Unmad
     ensures read { IfOk result (λ image. Says (S.left source.old) (Ok image)) }
     ensures refused { (why : DecodeRefusal) → IsErrOf result (Unmade.Refused (Refusal.Image why))
         → Says (S.left source.old) (Err why) }
+    ensures reads { ReadsSo (S.left source.old) (S.left source.new) (ended_as result) }
+    ensures at_most { IsReadAtMost (S.left source.old) (S.left source.new) }
     ensures why { IfErr result (λ e.
         ((why : DecodeRefusal) × (e ≡ Unmade.Refused (Refusal.Image why))) ⊎ ((e ≡ Unmade.ReadFault) ⊎ (e ≡ Unmade.NoMemory))) }
     ensures fault { IsErrOf result Unmade.ReadFault → S.faults source.old < S.faults source.new }
@@ -123,6 +127,8 @@ fn adopt_read<S: Source, F: Fresh>(
     ensures begins { IfOk result MayBegin }
     ensures refused { (why : Refusal) → IsErrOf result (Unmade.Refused why)
         → Adopts given (S.left source.old) (F.identifiers fresh.old) (F.identifiers fresh.new) (Err why) }
+    ensures reads { ReadsSo (S.left source.old) (S.left source.new) (ended_as result) }
+    ensures at_most { IsReadAtMost (S.left source.old) (S.left source.new) }
     ensures not_disk { IsErrOf result Unmade.DiskFault → ⊥ }
     ensures read_fault { IsErrOf result Unmade.ReadFault → S.faults source.old < S.faults source.new }
     ensures read_later { S.faults source.old ≤ S.faults source.new }
@@ -144,6 +150,8 @@ pub(crate) fn image_on<D: Disk, S: Source, F: Fresh>(
 ) -> (Result<(), Unmade>, D)
     ensures made { let comes = Adopts given (S.left source.old) (F.identifiers fresh.old) (F.identifiers fresh.new) in
         MadeOn D.Disk comes disk result.1 result.0 }
+    ensures reads { ReadsSo (S.left source.old) (S.left source.new) (ended_as result.0) }
+    ensures at_most { IsReadAtMost (S.left source.old) (S.left source.new) }
     ensures read_fault { IsErrOf result.0 Unmade.ReadFault
         → (S.faults source.old < S.faults source.new) × Untouched D.Disk disk result.1 }
     ensures read_later { S.faults source.old ≤ S.faults source.new }

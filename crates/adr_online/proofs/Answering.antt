@@ -1,7 +1,7 @@
 -- What a session's end is to the server, once the connection is hung up.
 use Rattle.std.proofs.Common.{◌≡◌, ◌⊎◌, inl, inr, refl, ⊎_elim, ℕ, List, [], ◌++◌, take, Option, Some, None, Result, Ok, Err, IfSome, arith, ◌≤◌, ◌<◌}
 use Rattle.std.specs.Option.{option_map}
-use Rattle.std.specs.Prelude.{IfErr, IfOk, IsErrOf}
+use Rattle.std.specs.Prelude.{IfErr, IfOk, IsErrOf, OnErr}
 use Rattle.adr_disk.specs.Disk.{Among}
 use Rattle.adr_model.specs.Store.{State}
 use Rattle.adr_law_journal.specs.Areas.{Started}
@@ -15,28 +15,28 @@ use Rattle.adr_session.specs.declared.ending.Served.{Served}
 use Rattle.adr_session.specs.declared.ending.ServeFault.{ServeFault}
 use Rattle.adr_session.specs.declared.ending.ServeFault.TheVariants as faults
 use Rattle.adr_law_controller.specs.Keeping.{Stands}
-use Rattle.adr_session.specs.Told.{IsAt, FindsNear, LeavesBehind, ServedTo, Serves}
+use Rattle.adr_session.specs.Told.{EndsByFault, IsAt, FindsNear, LeavesBehind, ServedTo, Serves}
 use Rattle.adr_online.specs.declared.ended.Stop.TheVariants as stops
-use Rattle.adr_online.specs.Posts.{Post, opened}
+use Rattle.adr_online.specs.Posts.{Post, Fails, done, opened}
 use Rattle.adr_online.specs.Served.{AnswersAll, stopped}
 use Rattle.adr_online.proofs.Hanging.{hung}
 
 -- the connection was opened, and nothing was done in it yet
 pub begun : {K : Type 0} (k : KeeperGhosts K) (p : Post) (came : List ℕ) (rest : List (List ℕ)) (c : Running K) (net : Option Traffic) (clock : Option (List ℕ))
-    → Stands k p.stands c → net ≡ Some (open_line rest p.done came []) → clock ≡ Some p.moments
-    → IsAt k (open_line rest p.done came []) (opened p came) c net clock
+    → Stands k p.stands c → net ≡ Some (open_line rest (done p) came []) → clock ≡ Some p.moments
+    → IsAt k (open_line rest (done p) came []) (opened p came) c net clock
 begun k p came rest c net clock stands opens moments = record { stands = stands; net = opens; clock = moments }
 
 module _ {K : Type 0} (k : KeeperGhosts K) (before : K) (p : Post) (came : List ℕ) (rest : List (List ℕ)) (c : Running K) (net new : Option Traffic)
     (clock : Option (List ℕ)) (is : new ≡ option_map hung_up net) where
   abbrev line : Traffic
-  line = open_line rest p.done came []
+  line = open_line rest (done p) came []
 
   pub answered_to : (n : ℕ) (end : End) → ServedTo k line (opened p came) n end c net clock
       → AnswersAll k before p came rest (Ok (record { messages = n; end = end })) c new clock
-  answered_to n ended.Hung b = (b.0, b.0.sent, (b.1, refl), b.2.stands, hung rest p.done came b.0.sent net new is b.2.net, b.2.clock)
-  answered_to n ended.Malformed b = (b.0, b.0.sent, (b.1, refl), b.2.stands, hung rest p.done came b.0.sent net new is b.2.net, b.2.clock)
-  answered_to n ended.Limit b = (b.0, b.0.sent, (b.1, refl), b.2.stands, hung rest p.done came b.0.sent net new is (b.0.left, b.2.net), b.2.clock)
+  answered_to n ended.Hung b = (b.0, b.0.sent, (b.1, refl), b.2.stands, hung rest (done p) came b.0.sent net new is b.2.net, b.2.clock)
+  answered_to n ended.Malformed b = (b.0, b.0.sent, (b.1, refl), b.2.stands, hung rest (done p) came b.0.sent net new is b.2.net, b.2.clock)
+  answered_to n ended.Limit b = (b.0, b.0.sent, (b.1, refl), b.2.stands, hung rest (done p) came b.0.sent net new is (b.0.left, b.2.net), b.2.clock)
   answered_to n ended.Fault b =
       let r = b.2.0 in
       let cut = b.2.1 in (
@@ -44,20 +44,20 @@ module _ {K : Type 0} (k : KeeperGhosts K) (before : K) (p : Post) (came : List 
         b.0.sent ++ take cut.count cut.due,
         (b.0, b.1, cut.near, (cut.due, cut.count, cut.whole, refl)),
         cut.stands,
-        hung rest p.done came (b.0.sent ++ take cut.count cut.due) net new is cut.net,
+        hung rest (done p) came (b.0.sent ++ take cut.count cut.due) net new is cut.net,
         cut.clock,
       )
 
   pub answered_clock : Serves k line (opened p came) (Err faults.Clock) c net clock → AnswersAll k before p came rest (Err stops.Clock) c new clock
   answered_clock s =
       let q = s.1.0 in
-      (q, s.0, s.1.1, hung rest p.done came q.sent net new is s.1.2.1.net, s.1.2.0, s.1.2.1.stands, s.1.2.1.clock)
+      (q, s.0, s.1.1, hung rest (done p) came q.sent net new is s.1.2.1.net, s.1.2.0, s.1.2.1.stands, s.1.2.1.clock)
 
   pub answered_memory : Serves k line (opened p came) (Err faults.NoMemory) c net clock → AnswersAll k before p came rest (Err stops.NoMemory) c new clock
   answered_memory s =
       let q = s.1.0 in
       let wants = s.1.2.1 in
-      (q, s.0, s.1.1, hung rest p.done came q.sent net new is wants.net, (s.1.2.0, wants.near, wants.stands))
+      (q, s.0, s.1.1, hung rest (done p) came q.sent net new is wants.net, (s.1.2.0, wants.near, wants.stands))
 
   -- the point is the one of which it is told what a start finds, where that is told
   pub answered_disk : Serves k line (opened p came) (Err faults.Disk) c net clock
@@ -70,10 +70,10 @@ module _ {K : Type 0} (k : KeeperGhosts K) (before : K) (p : Post) (came : List 
       by_told None told left =
           let q = s.1.0 in
           let none : IfSome (k.told before) (λ _. Among (FindsNear q) (k.may_leave c.keeper)) = rw told tt in
-          (q, s.0, s.1.1, hung rest p.done came q.sent net new is s.1.2.net, (s.1.2.state, none))
+          (q, s.0, s.1.1, hung rest (done p) came q.sent net new is s.1.2.net, (s.1.2.state, none))
       by_told (Some x) told left =
           let q = left.1.0 in
-          (q, left.0, left.1.1, hung rest p.done came q.sent net new is left.1.2.0, (s.1.2.state, if_told (k.told before) (λ _. Among (FindsNear q) (k.may_leave c.keeper)) (λ t tells. left.1.2.1)))
+          (q, left.0, left.1.1, hung rest (done p) came q.sent net new is left.1.2.0, (s.1.2.state, if_told (k.told before) (λ _. Among (FindsNear q) (k.may_leave c.keeper)) (λ t tells. left.1.2.1)))
 
   -- however the session ended
   pub answered_so : (r : Result Served ServeFault) → Serves k line (opened p came) r c net clock
@@ -108,6 +108,33 @@ stopped_clock (Ok s) is = absurd (cc is)
 stopped_clock (Err faults.Disk) is = absurd (cc is)
 stopped_clock (Err faults.Clock) is = refl
 stopped_clock (Err faults.NoMemory) is = absurd (cc is)
+
+-- ---- whether a call failed in the connection
+
+fails_so : (end : End) (old new : ℕ) → (end ≡ ended.Fault → old < new) → (end ≡ ended.Fault) ⊎ (new ≡ old) → Fails end old new
+fails_so ended.Fault old new rose either = rose refl
+fails_so ended.Hung old new rose (inl is) = absurd (cc is)
+fails_so ended.Hung old new rose (inr same) = same
+fails_so ended.Malformed old new rose (inl is) = absurd (cc is)
+fails_so ended.Malformed old new rose (inr same) = same
+fails_so ended.Limit old new rose (inl is) = absurd (cc is)
+fails_so ended.Limit old new rose (inr same) = same
+
+pub stopped_fails : (r : Result Served ServeFault) (old new : ℕ) → (EndsByFault r → old < new) → EndsByFault r ⊎ (new ≡ old)
+    → IfOk (stopped r) (λ s. Fails s.end old new)
+stopped_fails (Ok s) old new rose either = fails_so s.end old new rose either
+stopped_fails (Err faults.Disk) old new rose either = tt
+stopped_fails (Err faults.Clock) old new rose either = tt
+stopped_fails (Err faults.NoMemory) old new rose either = tt
+
+pub stopped_still : (r : Result Served ServeFault) (old new : ℕ) → EndsByFault r ⊎ (new ≡ old) → OnErr (stopped r) (new ≡ old)
+stopped_still (Ok s) old new either = tt
+stopped_still (Err faults.Disk) old new (inl ends) = absurd ends
+stopped_still (Err faults.Disk) old new (inr same) = same
+stopped_still (Err faults.Clock) old new (inl ends) = absurd ends
+stopped_still (Err faults.Clock) old new (inr same) = same
+stopped_still (Err faults.NoMemory) old new (inl ends) = absurd ends
+stopped_still (Err faults.NoMemory) old new (inr same) = same
 
 -- no call of a line failed, or one did
 pub lines_later : (A : Type 0) (old new : ℕ) → (A → old < new) → A ⊎ (new ≡ old) → old ≤ new

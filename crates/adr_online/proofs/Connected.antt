@@ -11,13 +11,12 @@ use Rattle.adr_law_journal.specs.Areas.{Found}
 use Rattle.adr_law_journal.proofs.Told.{at_told}
 use Rattle.adr_journal.specs.declared.keeper.Keeper.{Ghosts as KeeperGhosts}
 use Rattle.adr_controller.specs.Running.{IsInOrder, Running}
-use Rattle.adr_outside.specs.Traffic.{Traffic, Opens, hung_up}
-use Rattle.adr_outside.proofs.Hanging.{hung_twice}
+use Rattle.adr_outside.specs.Traffic.{Traffic, Opens, closed, hung_up}
 use Rattle.adr_outside.specs.Counted.{IsCounted}
 use Rattle.adr_outside.specs.declared.net.Net.{Ghosts as NetGhosts}
 use Rattle.adr_outside.specs.declared.clock.Clock.{Ghosts as ClockGhosts}
 use Rattle.adr_session.specs.declared.ending.Served.{Served}
-use Rattle.adr_session.specs.Talk.{Point}
+use Rattle.adr_session.specs.Talk.{Point, Reaches}
 use Rattle.adr_law_controller.specs.Keeping.{Stands}
 use Rattle.adr_session.specs.Told.{FindsBehind}
 use Rattle.adr_law_controller.proofs.Crashes.{Crashes, LeavesLaw, OnlyNowLaw, crash_by, still_crashes}
@@ -25,29 +24,40 @@ use Rattle.adr_session.proofs.Reacting.{if_ok_any}
 use Rattle.adr_online.specs.declared.ended.Stop.{Stop}
 use Rattle.adr_online.specs.declared.ended.Stop.TheVariants as stops
 use Rattle.adr_online.specs.Lines.{connection_line}
-use Rattle.adr_online.specs.Posts.{Post, FindsFrom, opened}
-use Rattle.adr_online.specs.Served.{called, AnswersAll, HasFallen, IsAt, IsTelling, Outside, ServesNext, StopsAt}
+use Rattle.adr_online.specs.Posts.{Post, Connects, Fails, FindsFrom, done, opened}
+use Rattle.adr_online.specs.Served.{called, AnswersAll, HasFallen, IsAt, IsHungUp, IsTelling, IsUnopened, Outside, ServesNext, StopsAt}
 use Rattle.adr_online.specs.Goes.{Answers, CallsDoor, Server, ServesOne, outside}
-use Rattle.adr_online.proofs.Hanging.{OpensNext, closed_still, opens_next}
+use Rattle.adr_online.proofs.Hanging.{OpensNext}
 
 -- the next connection of a post is opened
-pub next_opens : (p : Post) (o : Outside) (after : Option Traffic) → IsAt p o → IfSome o.net (λ t. Opens t after) → OpensNext p.waiting p.done after
-next_opens p o after at opens = opens_next p.waiting p.done o.net after at.net opens
+pub next_opens : (p : Post) (o : Outside) (after : Option Traffic) → IsAt p o → IfSome o.net (λ t. Opens t after) → OpensNext p.net.waiting (done p) after
+next_opens p o after at opens =
+    let next = at_told o.net (λ (t : Traffic). Opens t after) p.net at.net opens in
+    record { came = next.0; rest = next.1; opens = next.2; net = next.3 }
 
 -- none was
 module _ (at : Found State → Type 0) (fallen : Point → Type 0) (number : ℕ) (p : Post) (before after : Option Traffic) (clock lines : Option (List ℕ))
-    (stands : at p.stands) where
-  pub unopened : (stop : Stop) → (stop ≡ stops.Link) ⊎ (stop ≡ stops.NoMemory) → option_map hung_up after ≡ option_map hung_up before
-      → IsAt p (record { net = before; clock = clock; lines = lines }) → StopsAt at fallen number p stop (record { net = after; clock = clock; lines = lines })
-  unopened stop (inl is) same was =
-      subst (λ (x : Stop). StopsAt at fallen number p x (record { net = after; clock = clock; lines = lines })) (sym is)
-      (stands, record { net = same ∙ was.net; clock = was.clock; lines = was.lines })
-  unopened stop (inr is) same was =
-      subst (λ (x : Stop). StopsAt at fallen number p x (record { net = after; clock = clock; lines = lines })) (sym is)
-      (inl (stands, record { net = same ∙ was.net; clock = was.clock; lines = was.lines }))
+    (faults faults_after : ℕ) (stands : at p.stands) (still : faults_after ≡ faults) where
+  abbrev Was : Outside
+  Was = record { net = before; clock = clock; lines = lines; faults = faults }
 
-module _ {K : Type 0} (k : KeeperGhosts K) (before : K) (c : Running K) (number : ℕ) (p : Post) (came : List ℕ) (rest : List (List ℕ)) (opens : p.waiting ≡ came ∷ rest)
-    (net : Option Traffic) (clock : Option (List ℕ)) where
+  abbrev Then : Outside
+  Then = record { net = after; clock = clock; lines = lines; faults = faults_after }
+
+  unmoved : after ≡ before → IsAt p Was → IsAt p Then
+  unmoved same was = record { net = same ∙ was.net; clock = was.clock; lines = was.lines; faults = still ∙ was.faults }
+
+  unopened_then : (after ≡ before) ⊎ (after ≡ option_map hung_up before) → IsAt p Was → IsUnopened p Then
+  unopened_then (inl same) was = inl (unmoved same was)
+  unopened_then (inr hung) was = inr (record { net = hung ∙ ap (option_map hung_up) was.net; clock = was.clock; lines = was.lines; faults = still ∙ was.faults })
+
+  pub unopened : (stop : Stop) → (stop ≡ stops.Link) ⊎ (stop ≡ stops.NoMemory) → (stop ≡ stops.NoMemory → after ≡ before)
+      → (stop ≡ stops.Link → (after ≡ before) ⊎ (after ≡ option_map hung_up before)) → IsAt p Was → StopsAt at fallen number p stop Then
+  unopened stop (inl is) stays hangs was = subst (λ (x : Stop). StopsAt at fallen number p x Then) (sym is) (stands, unopened_then (hangs is) was)
+  unopened stop (inr is) stays hangs was = subst (λ (x : Stop). StopsAt at fallen number p x Then) (sym is) (inl (stands, unmoved (stays is) was))
+
+module _ {K : Type 0} (k : KeeperGhosts K) (before : K) (c : Running K) (number : ℕ) (p : Post) (came : List ℕ) (rest : List (List ℕ)) (opens : p.net.waiting ≡ came ∷ rest)
+    (net : Option Traffic) (clock : Option (List ℕ)) (faults : ℕ) where
   abbrev at : Found State → Type 0
   at f = Stands k f c
 
@@ -55,34 +65,57 @@ module _ {K : Type 0} (k : KeeperGhosts K) (before : K) (c : Running K) (number 
   fallen x = HasFallen k before x c
 
   -- it was cut off
-  pub cut_off : (lines : Option (List ℕ)) → lines ≡ Some p.written → (stop : Stop) → AnswersAll k before p came rest (Err stop) c net clock
-      → StopsAt at fallen number p stop (record { net = net; clock = clock; lines = lines })
-  cut_off lines still stops.Write a = absurd a
-  cut_off lines still stops.Link a = absurd a
-  cut_off lines still stops.Disk a =
-      (a.0, record { came = came; rest = rest; opens = opens; count = a.1; reaches = a.2; net = closed_still rest (p.done ++ a.0.sent ∷ []) net a.3; lines = still }, a.4)
-  cut_off lines still stops.Clock a =
-      (a.0, record { came = came; rest = rest; opens = opens; count = a.1; reaches = a.2; net = closed_still rest (p.done ++ a.0.sent ∷ []) net a.3; lines = still }, a.4, a.5, a.6)
-  cut_off lines still stops.NoMemory a =
-      inr (inl (a.0, a.4.0, record { came = came; rest = rest; opens = opens; count = a.1; reaches = a.2; net = closed_still rest (p.done ++ a.0.sent ∷ []) net a.3; lines = still }, a.4.1, a.4.2))
+  module _ (lines : Option (List ℕ)) (still : lines ≡ Some p.written) (none : faults ≡ p.faults) where
+    abbrev there : Outside
+    there = record { net = net; clock = clock; lines = lines; faults = faults }
+
+    hung_there : (x : Point) (n : ℕ) → Reaches n (opened p came) x → net ≡ Some (closed rest (done p ++ x.sent ∷ [])) → IsHungUp p x there
+    hung_there x n reaches is = record {
+      came = came;
+      rest = rest;
+      opens = opens;
+      count = n;
+      reaches = reaches;
+      net = is;
+      lines = still;
+      faults = none;
+    }
+
+    pub cut_off : (stop : Stop) → AnswersAll k before p came rest (Err stop) c net clock → StopsAt at fallen number p stop there
+    cut_off stops.Write a = absurd a
+    cut_off stops.Link a = absurd a
+    cut_off stops.Disk a = (a.0, hung_there a.0 a.1 a.2 a.3, a.4)
+    cut_off stops.Clock a = (a.0, hung_there a.0 a.1 a.2 a.3, a.4, a.5, a.6)
+    cut_off stops.NoMemory a = inr (inl (a.0, a.4.0, hung_there a.0 a.1 a.2 a.3, a.4.1, a.4.2))
 
   -- it was answered to its end
-  module _ (s : Served) (a : AnswersAll k before p came rest (Ok s) c net clock) (was lines : Option (List ℕ)) (wrote : was ≡ Some p.written) where
+  module _ (s : Served) (a : AnswersAll k before p came rest (Ok s) c net clock) (fails : Fails s.end p.faults faults) (was lines : Option (List ℕ))
+      (wrote : was ≡ Some p.written) where
     abbrev line : List ℕ
     line = connection_line number s.messages s.end
 
     abbrev next : Post
-    next = record { stands = a.0.stands; moments = a.0.moments; waiting = rest; done = p.done ++ a.1 ∷ []; written = p.written ++ line }
+    next = record {
+      stands = a.0.stands;
+      moments = a.0.moments;
+      net = closed rest (done p ++ a.1 ∷ []);
+      faults = faults;
+      written = p.written ++ line;
+    }
 
     abbrev now : Outside
-    now = record { net = net; clock = clock; lines = lines }
+    now = record { net = net; clock = clock; lines = lines; faults = faults }
+
+    connects : Connects number p next
+    connects = (came, rest, opens, (s.messages, s.end, a.0, a.1, faults, a.2, fails, refl))
 
     telling : AddsFront was lines line → IsTelling p next now
     telling front =
         let cut = at_told was (λ (w : List ℕ). (n : ℕ) × (lines ≡ Some (w ++ take n line))) p.written wrote front in
         record {
-          net = closed_still rest (p.done ++ a.1 ∷ []) net a.4;
+          net = a.4;
           clock = a.5;
+          faults = refl;
           line = line;
           whole = refl;
           count = cut.0;
@@ -93,18 +126,19 @@ module _ {K : Type 0} (k : KeeperGhosts K) (before : K) (c : Running K) (number 
         → IfErr r (λ stop. (stop ≡ stops.Write) ⊎ (stop ≡ stops.NoMemory)) → ServesNext at fallen number p r now
     told_so (Ok u) adds front only = (
       next,
-      (came, rest, opens, (s.messages, s.end, a.0, a.1, a.2, refl)),
+      connects,
       a.3,
       record {
-        net = closed_still rest (p.done ++ a.1 ∷ []) net a.4;
+        net = a.4;
         clock = a.5;
         lines = at_told was (λ (w : List ℕ). lines ≡ Some (w ++ line)) p.written wrote adds;
+        faults = refl;
       },
     )
     told_so (Err stop) adds front (inl is) =
-        subst (λ (x : Stop). StopsAt at fallen number p x now) (sym is) (next, (came, rest, opens, (s.messages, s.end, a.0, a.1, a.2, refl)), a.3, telling front)
+        subst (λ (x : Stop). StopsAt at fallen number p x now) (sym is) (next, connects, a.3, telling front)
     told_so (Err stop) adds front (inr is) =
-        subst (λ (x : Stop). StopsAt at fallen number p x now) (sym is) (inr (inr (next, (came, rest, opens, (s.messages, s.end, a.0, a.1, a.2, refl)), a.3, telling front)))
+        subst (λ (x : Stop). StopsAt at fallen number p x now) (sym is) (inr (inr (next, connects, a.3, telling front)))
 
 -- ---- what a crash leaves
 
@@ -114,7 +148,7 @@ module _ {K : Type 0} (k : KeeperGhosts K) where
   crashes_before leaves only_now p c stands in_order = still_crashes k leaves only_now (FindsFrom p) p.stands c stands in_order (λ s finds. inl finds)
 
   -- some of the next connection
-  pub crashes_within : (p : Post) (came : List ℕ) (rest : List (List ℕ)) → p.waiting ≡ came ∷ rest → (old new : K) → Crashes k old new (FindsBehind (opened p came)) → Crashes k old new (FindsFrom p)
+  pub crashes_within : (p : Post) (came : List ℕ) (rest : List (List ℕ)) → p.net.waiting ≡ came ∷ rest → (old new : K) → Crashes k old new (FindsBehind (opened p came)) → Crashes k old new (FindsFrom p)
   crashes_within p came rest opens old new crash = crash_by k old new (FindsBehind (opened p came)) (FindsFrom p) (λ s finds. inr (came, rest, opens, finds)) crash
 
 -- ---- a call of a door
@@ -125,19 +159,35 @@ called_on (Ok u) A a = a
 called_on (Err Failed) A a = tt
 called_on (Err NoMemory) A a = tt
 
--- where it opened none, none is open, or the one before
-pub hung_so :
-    (before after : Option Traffic) (r : Result Unit Fault) → (r ≡ Err Failed → after ≡ option_map hung_up before) → (r ≡ Err NoMemory → after ≡ before)
-    → (e : Fault) → r ≡ Err e → option_map hung_up after ≡ option_map hung_up before
-hung_so before after r closes stays Failed is = ap (option_map hung_up) (closes is) ∙ hung_twice before
-hung_so before after r closes stays NoMemory is = ap (option_map hung_up) (stays is)
-
+-- where it opened none, one that was open still is, or was hung up
 pub door_called :
     {N : Type 0} (n : NetGhosts N) (old new : N) (r : Result Unit Fault) → IsCounted (n.doors old) (n.doors new) (n.lines old) (n.lines new) r
-    → ((e : Fault) → r ≡ Err e → option_map hung_up (n.traffic new) ≡ option_map hung_up (n.traffic old)) → CallsDoor n old new (called r)
-door_called n old new (Ok u) a stays = record { only = tt; stays = tt; link = λ is. absurd (cc is); doors_later = a.never_falls; lines = a.other }
-door_called n old new (Err Failed) a stays = record { only = inl refl; stays = stays Failed refl; link = λ is. a.failed refl; doors_later = a.never_falls; lines = a.other }
-door_called n old new (Err NoMemory) a stays = record { only = inr refl; stays = stays NoMemory refl; link = λ is. absurd (cc is); doors_later = a.never_falls; lines = a.other }
+    → (r ≡ Err NoMemory → n.traffic new ≡ n.traffic old)
+    → (r ≡ Err Failed → (n.traffic new ≡ n.traffic old) ⊎ (n.traffic new ≡ option_map hung_up (n.traffic old))) → CallsDoor n old new (called r)
+door_called n old new (Ok u) a stays hangs = record {
+  only = tt;
+  stays = λ is. absurd (cc is);
+  hangs = λ is. absurd (cc is);
+  link = λ is. absurd (cc is);
+  doors_later = a.never_falls;
+  lines = a.other;
+}
+door_called n old new (Err Failed) a stays hangs = record {
+  only = inl refl;
+  stays = λ is. absurd (cc is);
+  hangs = λ is. hangs refl;
+  link = λ is. a.failed refl;
+  doors_later = a.never_falls;
+  lines = a.other;
+}
+door_called n old new (Err NoMemory) a stays hangs = record {
+  only = inr refl;
+  stays = λ is. stays refl;
+  hangs = λ is. absurd (cc is);
+  link = λ is. absurd (cc is);
+  doors_later = a.never_falls;
+  lines = a.other;
+}
 
 -- ---- with what is counted
 
@@ -164,8 +214,8 @@ module _ {K N C S : Type 0} (k : KeeperGhosts K) (n : NetGhosts N) (c : ClockGho
     up = tt;
     serves = λ p stands at.
         let o = next_opens p (outside n c s v) (n.traffic begun) at opens in
-        cut_off k v.controller.keeper after number p o.came o.rest o.opens (n.traffic net) (c.moments clock) (s.written v.sink) at.lines stop
-        (a.answers p o.came o.rest stands o.net at.clock);
+        cut_off k v.controller.keeper after number p o.came o.rest o.opens (n.traffic net) (c.moments clock) (n.lines net) (s.written v.sink) at.lines
+        (a.no_fault ∙ (door.lines ∙ at.faults)) stop (a.answers p o.came o.rest stands o.net at.clock);
     any_moment = crash_passed (Err stop) a;
     told = a.told;
     disk = λ is. let same : stop ≡ stops.Disk = (cc is) in a.disk (ap (λ (x : Stop). let r : Result Served Stop = Err x in r) same);
@@ -194,7 +244,8 @@ module _ {K N C S : Type 0} (k : KeeperGhosts K) (n : NetGhosts N) (c : ClockGho
     up = if_ok_any (IsSome after.state) r a.up;
     serves = λ p stands at.
         let o = next_opens p (outside n c s v) (n.traffic begun) at opens in
-        told_so k v.controller.keeper after number p o.came o.rest o.opens (n.traffic net) (c.moments clock) served (a.answers p o.came o.rest stands o.net at.clock)
+        told_so k v.controller.keeper after number p o.came o.rest o.opens (n.traffic net) (c.moments clock) (n.lines net) served
+        (a.answers p o.came o.rest stands o.net at.clock) (subst (λ (x : ℕ). Fails served.end x (n.lines net)) (door.lines ∙ at.faults) a.fails)
         (s.written v.sink) (s.written sink) at.lines r adds front only;
     any_moment = crash_passed (Ok served) a;
     told = a.told;

@@ -1,10 +1,8 @@
 -- Many connections, one after the other.
 use Rattle.std.proofs.Common.{◌≡◌, ◌⊎◌, ◌≤◌, ◌<◌, ◌+◌, ◌∙◌, inl, inr, refl, sym, ap, subst, ℕ, suc, Result, Ok, Err, arith}
-use Rattle.std.specs.Option.{option_map}
 use Rattle.std.specs.Prelude.{IsSome}
 use Rattle.adr_io.specs.declared.Sink.{Ghosts as SinkGhosts}
 use Rattle.adr_disk.specs.Disk.{Among}
-use Rattle.adr_outside.specs.Traffic.{hung_up}
 use Rattle.adr_outside.specs.declared.net.Net.{Ghosts as NetGhosts}
 use Rattle.adr_outside.specs.declared.clock.Clock.{Ghosts as ClockGhosts}
 use Rattle.adr_model.specs.Store.{State}
@@ -106,7 +104,8 @@ module _ {K N C S : Type 0} (k : KeeperGhosts K) (n : NetGhosts N) (c : ClockGho
 
     stops_unopened : (number : ℕ) (p : Post) → Stands k p.stands v.controller → IsAt p (outside n c s v) → StopsAt at_once fallen_there number p stop (outside n c s (record v { net = net }))
     stops_unopened number p stands at =
-        unopened at_once fallen_there number p (n.traffic v.net) (n.traffic net) (c.moments v.clock) (s.written v.sink) stands stop door.only door.stays at
+        unopened at_once fallen_there number p (n.traffic v.net) (n.traffic net) (c.moments v.clock) (s.written v.sink) (n.lines v.net) (n.lines net) stands
+        door.lines stop door.only (λ is. door.stays (ap failing is)) (λ is. door.hangs (ap failing is)) at
 
     pub unaccepted : (number : ℕ) → ServesOne k n c s number v (record v { net = net }) (Err stop)
     unaccepted number =
@@ -186,8 +185,8 @@ module _ {K N C S : Type 0} (k : KeeperGhosts K) (n : NetGhosts N) (c : ClockGho
       → ServesSo k n c s count (record v { net = net }) new r → ServesSo k n c s count v new r
   served_behind count v new net r stays door so = record {
     up = so.up;
-    serves = λ p stands at. so.serves p stands (record { net = ap (option_map hung_up) stays ∙ at.net; clock = at.clock; lines = at.lines });
-    any_moment = λ p stands at. so.any_moment p stands (record { net = ap (option_map hung_up) stays ∙ at.net; clock = at.clock; lines = at.lines });
+    serves = λ p stands at. so.serves p stands (listening p at);
+    any_moment = λ p stands at. so.any_moment p stands (listening p at);
     told = so.told;
     disk = so.disk;
     disk_later = so.disk_later;
@@ -199,3 +198,6 @@ module _ {K N C S : Type 0} (k : KeeperGhosts K) (n : NetGhosts N) (c : ClockGho
     write = so.write;
     sink_later = so.sink_later;
   }
+    where
+      listening : (p : Post) → IsAt p (outside n c s v) → IsAt p (outside n c s (record v { net = net }))
+      listening p at = record { net = stays ∙ at.net; clock = at.clock; lines = at.lines; faults = door.lines ∙ at.faults }

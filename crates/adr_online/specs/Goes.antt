@@ -15,7 +15,7 @@ use Rattle.adr_session.specs.Told.{FindsBehind}
 use Rattle.adr_session.specs.declared.ending.Served.{Served}
 use Rattle.adr_online.specs.declared.ended.Stop.{Stop}
 use Rattle.adr_online.specs.declared.ended.Stop.TheVariants as stops
-use Rattle.adr_online.specs.Posts.{Post, FindsFrom, FindsWithin, opened}
+use Rattle.adr_online.specs.Posts.{Post, Fails, FindsFrom, FindsWithin, done, opened}
 use Rattle.adr_online.specs.Served.{AnswersAll, HasFallen, IsAt, Outside, ServesAll, ServesNext}
 
 -- a server: its controller, its network, its clock, and where its lines go
@@ -26,12 +26,13 @@ pub record Server (K N C S : Type 0) : Type 0 where
   pub sink : S
 
 abbrev pub outside : {K N C S : Type 0} → NetGhosts N → ClockGhosts C → SinkGhosts S → Server K N C S → Outside
-outside n c s v = record { net = n.traffic v.net; clock = c.moments v.clock; lines = s.written v.sink }
+outside n c s v = record { net = n.traffic v.net; clock = c.moments v.clock; lines = s.written v.sink; faults = n.lines v.net }
 
--- a call of a door: where it fails, no connection is open
+-- a call of a door: where it fails, a connection that was open still is, or was hung up
 pub record CallsDoor {N : Type 0} (n : NetGhosts N) (old new : N) (r : Result Unit Stop) : Type 0 where
   pub only : IfErr r (λ stop. (stop ≡ stops.Link) ⊎ (stop ≡ stops.NoMemory))
-  pub stays : OnErr r (option_map hung_up (n.traffic new) ≡ option_map hung_up (n.traffic old))
+  pub stays : IsErrOf r stops.NoMemory → n.traffic new ≡ n.traffic old
+  pub hangs : IsErrOf r stops.Link → (n.traffic new ≡ n.traffic old) ⊎ (n.traffic new ≡ option_map hung_up (n.traffic old))
   pub link : IsErrOf r stops.Link → n.doors old < n.doors new
   pub doors_later : n.doors old ≤ n.doors new
   pub lines : n.lines new ≡ n.lines old
@@ -42,11 +43,11 @@ pub record Answers {K N C : Type 0} (k : KeeperGhosts K) (n : NetGhosts N) (c : 
   pub up : IfOk r (λ _. IsSome new.state)
   pub answers :
       (p : Post) (came : List ℕ) (rest : List (List ℕ)) → Stands k p.stands old
-      → n.traffic net ≡ Some (open_line rest p.done came []) → c.moments clock_before ≡ Some p.moments
+      → n.traffic net ≡ Some (open_line rest (done p) came []) → c.moments clock_before ≡ Some p.moments
       → AnswersAll k old.keeper p came rest r new (n.traffic net_after) (c.moments clock_after)
   pub any_moment :
       (p : Post) (came : List ℕ) (rest : List (List ℕ)) → Stands k p.stands old
-      → n.traffic net ≡ Some (open_line rest p.done came []) → c.moments clock_before ≡ Some p.moments
+      → n.traffic net ≡ Some (open_line rest (done p) came []) → c.moments clock_before ≡ Some p.moments
       → IfSome (k.told old.keeper) (λ _.
       LeavesOnly k.moment k.left_since old.keeper new.keeper (FindsBehind (opened p came)))
   pub only : IfErr r (λ stop. (stop ≡ stops.Disk) ⊎ ((stop ≡ stops.Clock) ⊎ (stop ≡ stops.NoMemory)))
@@ -55,6 +56,9 @@ pub record Answers {K N C : Type 0} (k : KeeperGhosts K) (n : NetGhosts N) (c : 
   pub disk_later : k.faults old.keeper ≤ k.faults new.keeper
   pub clock : IsErrOf r stops.Clock → c.faults clock_before < c.faults clock_after
   pub clock_later : c.faults clock_before ≤ c.faults clock_after
+  -- a call failed in the connection only where that ended it
+  pub fails : IfOk r (λ s. Fails s.end (n.lines net) (n.lines net_after))
+  pub no_fault : OnErr r (n.lines net_after ≡ n.lines net)
   pub lines_later : n.lines net ≤ n.lines net_after
   pub doors : n.doors net_after ≡ n.doors net
 

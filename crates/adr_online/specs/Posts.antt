@@ -1,5 +1,6 @@
 -- A server's connections: where it stands between two of them, and what each comes to.
-use Rattle.std.specs.Prelude.{◌≡◌, ◌⊎◌, ℕ, zero, suc, ◌≤◌, List, [], ◌∷◌, ◌++◌, take}
+use Rattle.std.specs.Prelude.{◌≡◌, ◌⊎◌, ℕ, zero, suc, ◌<◌, ◌≤◌, List, [], ◌∷◌, ◌++◌, take}
+use Rattle.adr_outside.specs.Traffic.{Traffic, closed, hung_up}
 use Rattle.adr_model.specs.Store.{State}
 use Rattle.adr_law_journal.specs.Areas.{Found, Started}
 use Rattle.adr_law_journal.specs.Kept.{FindsState}
@@ -13,9 +14,13 @@ use Rattle.adr_online.specs.Lines.{connection_line}
 pub record Post : Type 0 where
   pub stands : Found State  -- its state, and its log
   pub moments : List ℕ  -- the moments that its clock is going to give
-  pub waiting : List (List ℕ)  -- what comes in each connection that isn't opened yet
-  pub done : List (List ℕ)  -- what was sent in each that was hung up
+  pub net : Traffic  -- what comes in its connections, and what was sent in them
+  pub faults : ℕ  -- how many calls have failed in its connections
   pub written : List ℕ  -- the lines
+
+-- what was sent in each connection before the next one, which hangs up the open one
+abbrev pub done : Post → List (List ℕ)
+done p = (hung_up p.net).done
 
 -- a connection was opened in which this comes
 abbrev pub opened : Post → List ℕ → Point
@@ -30,16 +35,21 @@ Comes p n ended.Limit q sent = (talk message_limit p ≡ (q, n, Limit)) × (sent
 Comes p n ended.Fault q sent =
     (r : Point) × Reaches n p r × IsNear r q × ((due : List ℕ) × (count : ℕ) × (q.sent ≡ r.sent ++ due) × (sent ≡ r.sent ++ take count due))
 
--- the connection of this number was served, and its line written
+-- so many calls had failed in connections before one, and so many behind it: one failed in it just where it ended as a fault
+abbrev pub Fails : End → ℕ → ℕ → Type 0
+Fails ended.Fault before after = before < after
+Fails end before after = after ≡ before
+
+-- the connection of this number was served and hung up, and its line written
 abbrev pub Connects : ℕ → Post → Post → Type 0
 Connects number p q =
-    (came : List ℕ) × (rest : List (List ℕ)) × (p.waiting ≡ came ∷ rest)
-    × ((n : ℕ) × (end : End) × (r : Point) × (sent : List ℕ) × Comes (opened p came) n end r sent
+    (came : List ℕ) × (rest : List (List ℕ)) × (p.net.waiting ≡ came ∷ rest)
+    × ((n : ℕ) × (end : End) × (r : Point) × (sent : List ℕ) × (faults : ℕ) × Comes (opened p came) n end r sent × Fails end p.faults faults
     × (q ≡ record {
       stands = r.stands;
       moments = r.moments;
-      waiting = rest;
-      done = p.done ++ sent ∷ [];
+      net = closed rest (done p ++ sent ∷ []);
+      faults = faults;
       written = p.written ++ connection_line number n end;
     }))
 
@@ -54,7 +64,7 @@ Behind (suc n) p q = (r : Post) × Behind n p r × Connects (suc n) r q
 abbrev pub FindsFrom : Post → Started State → Type 0
 FindsFrom p s =
     FindsState p.stands.state s
-    ⊎ ((came : List ℕ) × (rest : List (List ℕ)) × (p.waiting ≡ came ∷ rest) × FindsBehind (opened p came) s)
+    ⊎ ((came : List ℕ) × (rest : List (List ℕ)) × (p.net.waiting ≡ came ∷ rest) × FindsBehind (opened p came) s)
 
 -- the same behind some of so many connections
 abbrev pub FindsWithin : ℕ → Post → Started State → Type 0

@@ -1,6 +1,5 @@
 -- What is told of a server: where its node, its network, its clock and its lines stand.
 use Rattle.std.specs.Prelude.{◌≡◌, ◌⊎◌, ℕ, suc, ◌<◌, List, [], ◌∷◌, ◌++◌, take, Option, Some, None, IfSome, Result, Ok, Err}
-use Rattle.std.specs.Option.{option_map}
 use Rattle.adr_io.specs.declared.Fault.{Fault}
 use Rattle.adr_io.specs.declared.Fault.TheVariants as io
 use Rattle.adr_disk.specs.Disk.{Among}
@@ -17,44 +16,48 @@ use Rattle.adr_session.specs.declared.ending.ServeFault.{ServeFault}
 use Rattle.adr_session.specs.declared.ending.ServeFault.TheVariants as faults
 use Rattle.adr_online.specs.declared.ended.Stop.{Stop}
 use Rattle.adr_online.specs.declared.ended.Stop.TheVariants as stops
-use Rattle.adr_online.specs.Posts.{Post, Behind, Comes, Connects, opened}
+use Rattle.adr_online.specs.Posts.{Post, Behind, Comes, Connects, done, opened}
 
--- what is told of a network and a clock, and of the lines that were written
+-- what is told of a network and a clock, and of the lines that were written, and how many calls have failed in connections
 pub record Outside : Type 0 where
   pub net : Option Traffic
   pub clock : Option (List ℕ)
   pub lines : Option (List ℕ)
+  pub faults : ℕ
 
 -- a call of the disk failed at a point: no state is in memory, and a start finds the one there, or the one behind the next message,
 -- where the keeper told before what one finds
 abbrev pub HasFallen : {K : Type 0} → KeeperGhosts K → K → Point → Running K → Type 0
 HasFallen k before x c = (c.state ≡ None) × IfSome (k.told before) (λ _. Among (FindsNear x) (k.may_leave c.keeper))
 
--- all outside is where the post says, an open connection being hung up
+-- all outside is where the post says
 pub record IsAt (p : Post) (o : Outside) : Type 0 where
-  pub net : option_map hung_up o.net ≡ Some (closed p.waiting p.done)
+  pub net : o.net ≡ Some p.net
   pub clock : o.clock ≡ Some p.moments
   pub lines : o.lines ≡ Some p.written
+  pub faults : o.faults ≡ p.faults
 
 -- between one post and the next: the connection was served, and a front of its line was written
 pub record IsTelling (p q : Post) (o : Outside) : Type 0 where
-  pub net : option_map hung_up o.net ≡ Some (closed q.waiting q.done)
+  pub net : o.net ≡ Some q.net
   pub clock : o.clock ≡ Some q.moments
+  pub faults : o.faults ≡ q.faults
   pub line : List ℕ
   pub whole : q.written ≡ p.written ++ line
   pub count : ℕ
   pub lines : o.lines ≡ Some (p.written ++ take count line)
 
 -- The next connection was hung up behind some of its messages, at the point x. What was sent in it are the answers to these,
--- and no line was written.
+-- no call failed in it, and no line was written.
 pub record IsHungUp (p : Post) (x : Point) (o : Outside) : Type 0 where
   pub came : List ℕ
   pub rest : List (List ℕ)
-  pub opens : p.waiting ≡ came ∷ rest
+  pub opens : p.net.waiting ≡ came ∷ rest
   pub count : ℕ
   pub reaches : Reaches count (opened p came) x
-  pub net : option_map hung_up o.net ≡ Some (closed rest (p.done ++ x.sent ∷ []))
+  pub net : o.net ≡ Some (closed rest (done p ++ x.sent ∷ []))
   pub lines : o.lines ≡ Some p.written
+  pub faults : o.faults ≡ p.faults
 
 -- The connection in which this came was answered to its end, and hung up. Or the node can't go on: the next message was not answered,
 -- and it was hung up then.
@@ -63,14 +66,14 @@ abbrev pub AnswersAll :
     → Type 0
 AnswersAll k before p came rest (Ok s) c net clock =
     (r : Point) × (sent : List ℕ) × Comes (opened p came) s.messages s.end r sent × Stands k r.stands c
-    × (net ≡ Some (closed rest (p.done ++ sent ∷ []))) × (clock ≡ Some r.moments)
+    × (net ≡ Some (closed rest (done p ++ sent ∷ []))) × (clock ≡ Some r.moments)
 AnswersAll k before p came rest (Err stops.Disk) c net clock =
-    (x : Point) × (n : ℕ) × Reaches n (opened p came) x × (net ≡ Some (closed rest (p.done ++ x.sent ∷ []))) × HasFallen k before x c
+    (x : Point) × (n : ℕ) × Reaches n (opened p came) x × (net ≡ Some (closed rest (done p ++ x.sent ∷ []))) × HasFallen k before x c
 AnswersAll k before p came rest (Err stops.Clock) c net clock =
-    (x : Point) × (n : ℕ) × Reaches n (opened p came) x × (net ≡ Some (closed rest (p.done ++ x.sent ∷ []))) × IsAtLine x
+    (x : Point) × (n : ℕ) × Reaches n (opened p came) x × (net ≡ Some (closed rest (done p ++ x.sent ∷ []))) × IsAtLine x
     × Stands k x.stands c × (clock ≡ Some x.moments)
 AnswersAll k before p came rest (Err stops.NoMemory) c net clock =
-    (x : Point) × (n : ℕ) × Reaches n (opened p came) x × (net ≡ Some (closed rest (p.done ++ x.sent ∷ [])))
+    (x : Point) × (n : ℕ) × Reaches n (opened p came) x × (net ≡ Some (closed rest (done p ++ x.sent ∷ [])))
     × ((y : Point) × IsNear x y × Stands k y.stands c)
 AnswersAll k before p came rest (Err stops.Write) c net clock = ⊥
 AnswersAll k before p came rest (Err stops.Link) c net clock = ⊥
@@ -90,9 +93,13 @@ stopped (Err faults.NoMemory) = Err stops.NoMemory
 
 -- ---- how it ended, where `at` says where the node then stands, and `fallen` at which point a call of its disk failed
 
+-- no connection was opened, and one that was open still is, or was hung up
+abbrev pub IsUnopened : Post → Outside → Type 0
+IsUnopened p o = IsAt p o ⊎ IsAt (record p { net = hung_up p.net }) o
+
 -- why the connection of this number wasn't served, or not its line written
 abbrev pub StopsAt : (Found State → Type 0) → (Point → Type 0) → ℕ → Post → Stop → Outside → Type 0
-StopsAt at fallen number p stops.Link o = at p.stands × IsAt p o
+StopsAt at fallen number p stops.Link o = at p.stands × IsUnopened p o
 StopsAt at fallen number p stops.Write o = (q : Post) × Connects number p q × at q.stands × IsTelling p q o
 StopsAt at fallen number p stops.Disk o = (x : Point) × IsHungUp p x o × fallen x
 StopsAt at fallen number p stops.Clock o = (x : Point) × IsHungUp p x o × IsAtLine x × at x.stands × (o.clock ≡ Some x.moments)

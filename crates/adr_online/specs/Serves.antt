@@ -29,7 +29,7 @@ pub record Hands (D N C S : Type 0) : Type 0 where
   pub sink : S
 
 abbrev pub outside_of : {D N C S : Type 0} → NetGhosts N → ClockGhosts C → SinkGhosts S → Hands D N C S → Outside
-outside_of n c k h = record { net = n.traffic h.net; clock = c.moments h.clock; lines = k.written h.sink }
+outside_of n c k h = record { net = n.traffic h.net; clock = c.moments h.clock; lines = k.written h.sink; faults = n.lines h.net }
 
 -- a start finds the state at a point, or the one behind the next message, where what it finds was told before
 abbrev pub FallsOn : {D : Type 0} → Seen D → D → D → Point → Type 0

@@ -1,10 +1,9 @@
 //! Adding an object.
 
-ghost use Rattle.std.specs.Prelude.{◌≡◌, ◌<◌, ◌≤◌, ◌∷◌, [], Ok, Err, IfOk, IsErrOf, OnOk};
+ghost use Rattle.std.specs.Prelude.{◌≡◌, ◌<◌, ◌≤◌, Ok, Err, IfOk, IsErrOf, OnOk};
 ghost use Rattle.std.specs.Result.{result_err};
 ghost use Rattle.adr_call.specs.declared.refusal.WriteRefusal.{WriteRefusal};
 ghost use Rattle.adr_values.specs.Numbered.{numbered};
-ghost use Rattle.adr_model.specs.Change.{unchanged};
 ghost use Rattle.adr_model.specs.Store.{updates_of};
 ghost use Rattle.adr_model.specs.Write.{AddObject, add_refusal, nodes_held, rows_written, usn_limit, write};
 ghost use Rattle.adr_origin.specs.Parts.{object_refusal, place_refusal, room_refusal};
@@ -16,10 +15,11 @@ use crate::checks::{
 };
 use crate::new_object::{NewObject, new_rows};
 use crate::placing::{check_name_free, check_parent, check_superior};
+use crate::stamps::own_change;
 use adr_call::{Failure, WriteRefusal};
 use adr_checks::check_name;
-use adr_state::{Change, Item, Mode, State, Written};
-use adr_values::{Birth, LinkStamp, Oid, Stamp, Unit, Vector};
+use adr_state::{Change, Item, State};
+use adr_values::{Birth, LinkStamp, Oid, Stamp, Unit};
 use std::alloc::Global;
 
 /// What a client's adding an object makes of a controller at a time in seconds: the change, or why it is refused, first
@@ -38,9 +38,8 @@ pub fn add(
         (refusal : WriteRefusal) → IsErrOf result (Failure.Refused refusal) → write state.now added now ≡ Err refusal }
 {
     check_add(alloc, state, object)?;
-    let usn = state.usn() + 1;
     let item = new_item(alloc, state, object, now)?;
-    Ok(own_change(alloc, state, usn, item)?)
+    Ok(own_change(alloc, state, item)?)
 }
 
 /// Tests that an object may be added.
@@ -118,23 +117,4 @@ fn new_item(
     };
     let rows = new_rows(alloc, &oid, &stamp, object)?;
     Ok(Item::new(Unit::Object(oid), rows))
-}
-
-/// The change of a write: one item under its update sequence number.
-pub fn own_change(alloc: Global, state: &State, usn: u64, item: Item) -> Result<Change, NoMemory>
-    ensures { IfOk result (λ change. change
-        ≡ record (unchanged state.now) { usn = usn; writes = record { local = usn; item = item } ∷ [] }) }
-{
-    let mut writes = Vec::new(alloc);
-    writes.push(Written::new(usn, item))?;
-    Ok(Change::new(
-        usn,
-        Mode::Normal,
-        state.schema(),
-        None,
-        Vector::new(alloc),
-        Vector::new(alloc),
-        Vec::new(alloc),
-        writes,
-    ))
 }

@@ -15,7 +15,6 @@ ghost use Rattle.std.specs.Bool.{then_some};
 ghost use Rattle.adr_update.specs.Key.{key_of};
 ghost use Rattle.adr_change.specs.Mode.{mode_of};
 
-use crate::live::node;
 use crate::stamps::version_of;
 use adr_call::{Table, WriteRefusal};
 use adr_state::{CURSOR_LIMIT, Key, Mode, OBJECT_LIMIT, Rows, State, USN_LIMIT, VERSION_LIMIT};
@@ -65,7 +64,7 @@ pub fn check_object(state: &State, guid: Guid) -> Result<(), WriteRefusal>
     if !state.rows().holds_guid(guid) {
         return Err(WriteRefusal::NoObject { guid });
     }
-    if node(state, guid).is_none() {
+    if state.rows().node(guid).is_none() {
         return Err(WriteRefusal::Deleted { guid });
     }
     Ok(())

@@ -8,10 +8,9 @@ ghost use Rattle.adr_model.specs.Store.{updates_of};
 ghost use Rattle.adr_model.specs.Write.{Delete, delete_refusal, nodes_held, rows_written, usn_limit, write};
 
 use crate::NoMemory;
-use crate::adding::own_change;
 use crate::checks::{check_live, check_usn};
 use crate::placing::check_no_child;
-use crate::stamps::{next_item, object_of};
+use crate::stamps::{next_item, object_of, own_change};
 use adr_call::{Failure, WriteRefusal};
 use adr_state::{Change, DELETED, Item, State};
 use adr_values::{Content, Guid};
@@ -32,9 +31,8 @@ pub fn delete(
         → write state.now (Delete guid) now ≡ Err refusal }
 {
     check_delete(state, guid)?;
-    let usn = state.usn() + 1;
     let item = dead_item(alloc, state, guid, now)?;
-    Ok(own_change(alloc, state, usn, item)?)
+    Ok(own_change(alloc, state, item)?)
 }
 
 /// Tests that an object may be deleted.

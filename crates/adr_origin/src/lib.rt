@@ -8,7 +8,6 @@ mod adding;
 mod checks;
 mod deleting;
 mod linking;
-mod live;
 mod modifying;
 mod new_object;
 mod placing;

@@ -12,11 +12,10 @@ ghost use Rattle.adr_update.specs.Said.{said_of};
 ghost use Rattle.adr_origin.specs.LinkParts.{already_refusal, ends_refusal, start_refusal, write_refusal};
 
 use crate::NoMemory;
-use crate::adding::own_change;
 use crate::checks::{
     check_mode, check_not_fixed, check_object, check_schema, check_usn, check_version,
 };
-use crate::stamps::{class_of, next_stamp, object_of};
+use crate::stamps::{class_of, next_stamp, object_of, own_change};
 use adr_call::{Failure, Table, WriteRefusal};
 use adr_state::{Change, Item, Key, LINK_LIMIT, Mode, Rows, Said, State, Update};
 use adr_values::{Guid, LinkKey, Unit};
@@ -47,7 +46,7 @@ pub fn link(
 {
     let link = check_link(state, ends)?;
     let item = link_item(alloc, state, &link, now, true)?;
-    Ok(own_change(alloc, state, state.usn() + 1, item)?)
+    Ok(own_change(alloc, state, item)?)
 }
 
 /// What a client's removing a link under an attribute makes of a controller at a time in seconds: the change, or why it
@@ -67,7 +66,7 @@ pub fn unlink(
 {
     let link = check_any_link(state, ends, false)?;
     let item = link_item(alloc, state, &link, now, false)?;
-    Ok(own_change(alloc, state, state.usn() + 1, item)?)
+    Ok(own_change(alloc, state, item)?)
 }
 
 /// Tests that a link may be made, and names it.

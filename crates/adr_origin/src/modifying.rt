@@ -9,9 +9,8 @@ ghost use Rattle.adr_origin.specs.LiveParts.{given_refusal, rows_refusal};
 ghost use Rattle.adr_origin.specs.NextRows.{next_rows, versions_refusal};
 
 use crate::NoMemory;
-use crate::adding::own_change;
 use crate::checks::{check_live, check_schema, check_usn, check_version};
-use crate::stamps::{class_of, next_row, object_of};
+use crate::stamps::{class_of, next_row, object_of, own_change};
 use adr_call::{Failure, WriteRefusal};
 use adr_state::{Change, Item, Key, Rows, State, Update};
 use adr_values::{Assignments, Content, Guid, Oid, Unit};
@@ -33,10 +32,9 @@ pub fn modify(
         → write state.now (Modify guid values.now) now ≡ Err refusal }
 {
     check_modify(state, guid, values)?;
-    let usn = state.usn() + 1;
     let object = object_of(state, guid);
     let item = modified_item(alloc, state, &object, values, now)?;
-    Ok(own_change(alloc, state, usn, item)?)
+    Ok(own_change(alloc, state, item)?)
 }
 
 /// Tests that an object may be given values.

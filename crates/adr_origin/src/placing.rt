@@ -13,7 +13,6 @@ ghost use Rattle.adr_model.specs.Write.{child_refusal, class_of_place, loop_refu
 ghost use Rattle.adr_tree.specs.Parent.{IsParent};
 ghost use Rattle.adr_origin.specs.Telling.{Tells};
 
-use crate::live::{first_child, holder, is_met_above, is_taken, node};
 use crate::stamps::class_of;
 use adr_call::{Failure, WriteRefusal};
 use adr_checks::{LOST_AND_FOUND_CLASS, ROOT_CLASS};
@@ -28,7 +27,7 @@ pub fn check_parent(state: &State, parent: Guid) -> Result<(), WriteRefusal>
     ensures there { OnOk result (is_fixed parent || is_some (node_at (nodes_held (updates_of state.now.store.rows)) parent)
         ≡ true) }
 {
-    if is_fixed(parent) || node(state, parent).is_some() {
+    if is_fixed(parent) || state.rows().node(parent).is_some() {
         Ok(())
     } else {
         Err(WriteRefusal::NoParent { guid: parent })
@@ -72,7 +71,7 @@ pub fn check_name_free(
     requires { IsParent (nodes_held (updates_of state.now.store.rows)) parent }
     ensures { Tells result (option_map name_taken (name_holder (nodes_held (updates_of state.now.store.rows)) parent text.now)) }
 {
-    match holder(alloc, state, parent, text)? {
+    match state.rows().holder(alloc, parent, text)? {
         Some(holder) => Err(Failure::Refused(WriteRefusal::NameTaken { holder })),
         None => Ok(()),
     }
@@ -95,7 +94,8 @@ pub fn check_new_name(
     requires { IsParent (nodes_held (updates_of state.now.store.rows)) name.now.parent }
     ensures { Tells result (name_refusal (nodes_held (updates_of state.now.store.rows)) name.now.guid name.now.parent name.now.text.now) }
 {
-    if is_taken(alloc, state, name.guid, name.parent, name.text)? {
+    let rows = state.rows();
+    if rows.is_taken(alloc, name.guid, name.parent, name.text)? {
         check_name_free(alloc, state, name.parent, name.text)
     } else {
         Ok(())
@@ -106,7 +106,7 @@ pub fn check_new_name(
 pub fn check_no_loop(state: &State, guid: Guid, parent: Guid) -> Result<(), WriteRefusal>
     ensures { result_err result ≡ loop_refusal (nodes_held (updates_of state.now.store.rows)) guid parent }
 {
-    if is_met_above(state, parent, guid) {
+    if state.rows().is_met_above(parent, guid) {
         Err(WriteRefusal::WouldLoop)
     } else {
         Ok(())
@@ -119,7 +119,7 @@ pub fn check_no_child(state: &State, guid: Guid) -> Result<(), WriteRefusal>
     requires free { is_fixed guid ≡ false }
     ensures { result_err result ≡ child_refusal (nodes_held (updates_of state.now.store.rows)) guid }
 {
-    match first_child(state, guid) {
+    match state.rows().first_child(guid) {
         Some(child) => Err(WriteRefusal::HasChildren { child }),
         None => Ok(()),
     }

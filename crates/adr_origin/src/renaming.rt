@@ -10,11 +10,10 @@ ghost use Rattle.adr_model.specs.Write.{Rename, nodes_held, object_of, rename_re
 ghost use Rattle.adr_origin.specs.LiveParts.{moved_refusal, named_refusal, row_refusal};
 ghost use Rattle.adr_origin.specs.Telling.{Tells};
 
-use crate::adding::own_change;
 use crate::checks::{check_live, check_schema, check_usn, check_version};
 use crate::new_object::name_content;
 use crate::placing::{NewName, check_new_name, check_no_loop, check_parent, check_superior};
-use crate::stamps::{class_of, next_item, object_of};
+use crate::stamps::{class_of, next_item, object_of, own_change};
 use adr_call::{Failure, WriteRefusal};
 use adr_checks::check_name;
 use adr_state::{Change, Key, NAME, State};
@@ -39,11 +38,10 @@ pub fn rename(
 {
     let new = NewName { guid, parent, text };
     check_rename(alloc, state, &new)?;
-    let usn = state.usn() + 1;
     let name = name_content(alloc, text, parent)?;
     let object = object_of(state, guid);
     let item = next_item(alloc, state, &object, NAME, name, now)?;
-    Ok(own_change(alloc, state, usn, item)?)
+    Ok(own_change(alloc, state, item)?)
 }
 
 /// Tests that an object may be given a name and a parent.

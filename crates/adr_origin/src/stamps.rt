@@ -1,25 +1,24 @@
-//! The live object of a GUID, and the rows that are written once more, with their stamps.
+//! The live object of a GUID, the rows that are written once more, with their stamps, and the change of a write.
 
-ghost use Rattle.std.specs.Prelude.{◌≡◌, ◌≢◌, ◌<◌, ◌∷◌, [], IfOk};
+ghost use Rattle.std.specs.Prelude.{◌≡◌, ◌≢◌, ◌+◌, ◌<◌, ◌∷◌, [], IfOk};
 ghost use Rattle.std.specs.Option.{option_copied, option_map_or};
 ghost use Rattle.adr_model.specs.Store.{row_held, updates_of};
 ghost use Rattle.adr_model.specs.Update.{RowOf};
-ghost use Rattle.adr_model.specs.Write.{class_of, first_created, next_row, next_stamp, nodes_held, object_of, of_object, usn_limit, version_limit, version_of};
+ghost use Rattle.adr_model.specs.Write.{class_of, first_created, next_row, next_stamp, nodes_held, object_of, of_object, own_change, usn_limit, version_limit, version_of};
 ghost use Rattle.adr_update.specs.Key.{key_of};
 
 use crate::NoMemory;
-use crate::live::node;
 use crate::new_object::row;
-use adr_state::{Held, Item, Key, State, Update};
+use adr_state::{Change, Held, Item, Key, Mode, State, Update, Written};
 use adr_update::root;
-use adr_values::{Birth, Content, Guid, LinkStamp, Oid, Stamp, Unit};
+use adr_values::{Birth, Content, Guid, LinkStamp, Oid, Stamp, Unit, Vector};
 use std::alloc::Global;
 
 /// The live object of a GUID. A write of a GUID that has none is refused.
 pub fn object_of(state: &State, guid: Guid) -> Oid
     ensures { result ≡ object_of (nodes_held (updates_of state.now.store.rows)) guid }
 {
-    match node(state, guid) {
+    match state.rows().node(guid) {
         Some(node) => node.object(),
         None => Oid {
             guid,
@@ -35,7 +34,7 @@ pub fn object_of(state: &State, guid: Guid) -> Oid
 pub fn class_of(state: &State, guid: Guid) -> u16
     ensures { result ≡ class_of (nodes_held (updates_of state.now.store.rows)) guid }
 {
-    match node(state, guid) {
+    match state.rows().node(guid) {
         Some(node) => node.class(),
         None => 0,
     }
@@ -120,4 +119,25 @@ pub fn next_item(
     let mut rows = Vec::new(alloc);
     rows.push(next_row(state, object, attr, content, now))?;
     Ok(Item::new(Unit::Object(*object), rows))
+}
+
+/// The change of a write: one item under the next update sequence number.
+pub fn own_change(alloc: Global, state: &State, item: Item) -> Result<Change, NoMemory>
+    requires { state.now.store.usn < usn_limit }
+    ensures { IfOk result (λ change.
+        change ≡ own_change state.now (record { local = state.now.store.usn + 1; item = item } ∷ [])) }
+{
+    let usn = state.usn() + 1;
+    let mut writes = Vec::new(alloc);
+    writes.push(Written::new(usn, item))?;
+    Ok(Change::new(
+        usn,
+        Mode::Normal,
+        state.schema(),
+        None,
+        Vector::new(alloc),
+        Vector::new(alloc),
+        Vec::new(alloc),
+        writes,
+    ))
 }

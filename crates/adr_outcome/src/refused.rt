@@ -167,7 +167,7 @@ pub fn write_refused(refusal: WriteRefusal) -> Outcome
         WriteRefusal::VersionLimit { attr } => of_attr(20, "VersionLimit", attr),
         WriteRefusal::UsnLimit => plain(21, "UsnLimit"),
         WriteRefusal::Full { table, limit } => full(table, limit),
-        WriteRefusal::Quarantined => plain(23, "Quarantined"),
+        WriteRefusal::Quarantined => quarantined(),
         WriteRefusal::SchemaMismatch { mine, theirs } => schemas_differ(mine, theirs),
         WriteRefusal::NotInImage { guid } => of_id(60, "NotInImage", "guid", guid),
         WriteRefusal::StillLive { guid } => of_id(61, "StillLive", "guid", guid),
@@ -197,7 +197,7 @@ pub fn serve_refused(refusal: ServeRefusal) -> Outcome
     ensures { result ≡ serve_refused refusal }
 {
     match refusal {
-        ServeRefusal::Quarantined => plain(23, "Quarantined"),
+        ServeRefusal::Quarantined => quarantined(),
         ServeRefusal::WrongController { mine, asked } => {
             let fields = Fields::two(id_field("mine", mine), id_field("asked", asked));
             refused(30, "WrongController", fields)
@@ -224,7 +224,7 @@ pub fn take_refused(refusal: TakeRefusal) -> Outcome
     ensures { result ≡ take_refused refusal }
 {
     match refusal {
-        TakeRefusal::Quarantined => plain(23, "Quarantined"),
+        TakeRefusal::Quarantined => quarantined(),
         TakeRefusal::NotMine { dest } => of_id(40, "NotMine", "dest", dest),
         TakeRefusal::Stale { mark, from } => {
             let fields = Fields::two(mark_field("mark", mark), mark_field("from", from));

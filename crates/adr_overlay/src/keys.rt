@@ -32,12 +32,7 @@ pub fn is_reserved(key: Key) -> bool
 pub fn has_row(attr: u16, rows: &[Update]) -> bool
     ensures { result ≡ has_row attr rows.now }
 {
-    for row in rows {
-        if is_of_attr(attr, row.key()) {
-            return true;
-        }
-    }
-    false
+    first_row(attr, rows).is_some()
 }
 
 /// The class that a class row gives.

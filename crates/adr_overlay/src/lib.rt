@@ -1,8 +1,9 @@
 //! What is told of a controller's rows with others over them: what stands of an object or a link, which rows may be
 //! written over it, and what is wrong with one.
 //!
-//! It stands on the table of rows, and meets the definitions in `adr_model`. No row of the controller is copied. It knows
-//! nothing of replies, of records, or of how a change is made.
+//! It stands on the table of rows, on the schemas and the words of refusals (`faults.rt`), and on vectors (`presence.rt`),
+//! of which it also tells how many cursors one comes to have (`cursors.rt`). It meets the definitions in `adr_model`. No
+//! row of the controller is copied. It knows nothing of replies, of records, or of how a change is made.
 #![tactic(auto)]
 
 mod cursors;

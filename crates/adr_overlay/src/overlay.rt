@@ -255,8 +255,7 @@ fn are_life_of(rows: &[Update], object: &Oid) -> bool
     ensures { result ≡ list_all (is_life_of object.now) rows.now }
 {
     for row in rows {
-        let key = row.key();
-        if !key.is_row_of(object) || key.killed().is_some() {
+        if !row.key().is_life_of(object) {
             return false;
         }
     }

@@ -73,11 +73,7 @@ pub fn new_object(unit: &Unit, standing: Standing) -> Option<Oid>
 fn class_held(held: &Overlay, object: &Oid) -> Option<u16>
     ensures { result ≡ class_held held.now object.now }
 {
-    let key = Key::Row {
-        object: *object,
-        attr: CLASS,
-    };
-    match held.row(key) {
+    match held.row(Key::row(object, CLASS)) {
         Some(row) => class_said(row.update().said()),
         None => None,
     }

@@ -1,5 +1,5 @@
 -- A controller is made of a store.
-use Rattle.std.proofs.Common.{◌≡◌, ℕ, ◌<◌, List, [], length, map, max, fold, Some, sym, ap, ◌∙◌, arith}
+use Rattle.std.proofs.Common.{◌≡◌, Result, Ok, Err, IfOk, subst, ℕ, ◌<◌, List, [], length, map, max, fold, Some, sym, ap, ◌∙◌, arith}
 use Rattle.std.proofs.Common.{inl, inr}
 use Rattle.std.specs.List.Sorted.{IsStrictlySortedBy}
 use Rattle.std.proofs.lemmas.Cmp.{nat_list_cmp_total}
@@ -17,6 +17,15 @@ use Rattle.adr_state.specs.Refusal.{IsOverfull}
 use Rattle.adr_image.specs.Anew.{MakesAll}
 use Rattle.adr_records.specs.Woken.{unmade, with_marks}
 use Rattle.adr_records.proofs.Anew.{entries_anew, rows_anew}
+
+-- ---- what a call gave that isn't full
+
+pub made_of : {T E : Type 0} (P : T → Type 0) (given : Result T E) (x : T) → IfOk given P → given ≡ Ok x → P x
+made_of {T} {E} P given x each is = let Q : Result T E → Type 0 = λ r. IfOk r P in subst Q is each
+
+pub made_each : {T E F : Type 0} (P : T → Type 0) (given : Result T E) (made : Result T F) → IfOk given P → IfOk made (λ x. given ≡ Ok x) → IfOk made P
+made_each P given (Ok x) each is = made_of P given x each is
+made_each P given (Err e) each is = tt
 
 -- ---- the first change
 

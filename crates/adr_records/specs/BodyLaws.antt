@@ -1,5 +1,5 @@
 -- A change that may be recorded is read from its body and follows, and what follows leads to a state of a log.
-use Rattle.std.proofs.Common.{◌≡◌, ℕ, ◌<◌, ◌≤◌, Bool, true, false, cond, eqb, leb, List, [], ◌∷◌, ◌&&◌, length, map, Option, Some, None, refl, sym, ap, subst, ◌∙◌, arith, inl, inr}
+use Rattle.std.proofs.Common.{◌≡◌, ℕ, ◌≤◌, Bool, true, false, cond, eqb, leb, List, [], ◌∷◌, ◌&&◌, length, map, Option, Some, None, refl, sym, ap, subst, ◌∙◌, arith, inl, inr}
 use Rattle.std.specs.Prelude.{is_some}
 use Rattle.std.specs.List.{AllByRecursion, list_all}
 use Rattle.std.specs.List.Sorted.{IsStrictlySortedBy}
@@ -23,7 +23,7 @@ use Rattle.adr_wire.specs.Reading.{is_above}
 use Rattle.adr_wire.specs.Spelling.{AreBytes}
 use Rattle.adr_law_lengths.specs.Written.{update_of}
 use Rattle.adr_model.specs.Change.{Change, Written, after}
-use Rattle.adr_model.specs.Lengths.{change_length, log_version}
+use Rattle.adr_model.specs.Lengths.{change_length, area_version}
 use Rattle.adr_model.specs.LocalLog.{IsOrdered}
 use Rattle.adr_model.specs.Member.{Each, Member}
 use Rattle.adr_model.specs.Store.{State}
@@ -189,7 +189,7 @@ stays_logged s t body are logged follows = by (decoded_change s.store.usn s.stor
 
 -- ---- by the version of an area
 
-pub body_follows_in : (s : State) (c : Change) → MayBeRecorded s c → following_in log_version s (change_bytes c) ≡ Some (after s c)
+pub body_follows_in : (s : State) (c : Change) → MayBeRecorded s c → following_in area_version s (change_bytes c) ≡ Some (after s c)
 body_follows_in s c may = body_follows s c may
 
 pub begins_anew : (s : State) (c : Change) → MayBeRecorded s c → MayBegin s

@@ -10,7 +10,7 @@ use Rattle.adr_wire.specs.Spelling.{AreBytes, behind, Was, IsSpelling}
 use Rattle.adr_wire.proofs.Combining.{as_they_are, bind_ok, both, from, guard_ok, made, ok_is, pair, passed, spelled_bytes}
 use Rattle.adr_wire.proofs.FieldLaws.{format_version_spelled, id_spelled, magic_spelled, u32_spelled}
 use Rattle.adr_model.specs.Formed.{IsFormedStore}
-use Rattle.adr_model.specs.Lengths.{image_length, length_limit, log_version}
+use Rattle.adr_model.specs.Lengths.{image_length, length_limit, area_version}
 use Rattle.adr_model.specs.Store.{Held, Mode, Normal, State, Store}
 use Rattle.adr_model.specs.Update.{Identifier}
 use Rattle.adr_model.proofs.Members.{mapped_member}
@@ -262,7 +262,7 @@ begun_logged o b are q = record {
   classes = classes_known b.state q.own.0.0.1;
 }
 
-pub area_told : (place : ℕ) (s : State) → MayBegin s → image_length s.store < length_limit → TellsArea (area_at (s.dsa, s.inv)) place (area s) log_version s
+pub area_told : (place : ℕ) (s : State) → MayBegin s → image_length s.store < length_limit → TellsArea (area_at (s.dsa, s.inv)) place (area s) area_version s
 area_told place s begins short rest = (area_spelled (s.dsa, s.inv)).again place (began 1 s) rest (begins_begun s begins short)
 
 pub area_long : (s : State) → IsLogged s → length (area s) ≡ 6 + image_length s.store
@@ -281,7 +281,7 @@ area_read place o bytes b rest are read =
     }
 
 pub area_formed : (place : ℕ) (l : List ℕ) (o : Ids) (bytes : List ℕ) (b : Began State) (rest : Rest) → IsHead front_at l o → AreBytes bytes → area_at o (from place bytes) ≡ Ok (b, rest)
-    → IsLogged b.state × ((b.state.dsa, b.state.inv) ≡ o) × (b.version ≤ log_version)
+    → IsLogged b.state × ((b.state.dsa, b.state.inv) ≡ o) × (b.version ≤ area_version)
 area_formed place l o bytes b rest head are read =
     let was = (area_spelled o).only place bytes b rest are read in
     (begun_logged o b (head_ids l o head) was.in_range, was.in_range.owner, (let v = was.in_range.version in omega (arith, v)))

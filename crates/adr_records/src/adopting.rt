@@ -1,18 +1,18 @@
 //! A controller adopts what an image says.
 
-ghost use Rattle.std.specs.Prelude.{◌≡◌, None, Ok, Err, IfOk, IsErrOf};
+ghost use Rattle.std.specs.Prelude.{◌≡◌, Ok, Err, IfOk, IsErrOf};
 ghost use Rattle.adr_call.specs.declared.refusal.AdoptRefusal.{AdoptRefusal};
 ghost use Rattle.adr_model.specs.Collect.{adopt, adopt_refusal, woken};
 ghost use Rattle.adr_model.specs.Formed.{IsFormedStore};
 ghost use Rattle.adr_model.specs.Update.{Identifier};
 ghost use Rattle.adr_image.specs.Stored.{IsSpelled};
 
-use crate::waking::wake;
+use crate::waking::{unless_full, wake};
 use adr_call::{AdoptRefusal, Table};
 use adr_image::{Contents, names_inv};
 use adr_state::{CURSOR_LIMIT, State};
-use adr_values::{Failure, Guid, NoMemory};
-use std::alloc::{AllocError, Global};
+use adr_values::{Failure, Guid};
+use std::alloc::Global;
 
 /// Why a database can't be adopted under an identifier, first in order.
 fn adopt_refusal(contents: &Contents, inv: Guid) -> Option<AdoptRefusal>
@@ -30,20 +30,6 @@ fn adopt_refusal(contents: &Contents, inv: Guid) -> Option<AdoptRefusal>
     None
 }
 
-/// A controller of a database that can be adopted under the identifier.
-fn woken(alloc: Global, contents: Contents, dsa: Guid, inv: Guid) -> Result<State, NoMemory>
-    requires formed { IsFormedStore contents }
-    requires spelled { IsSpelled contents }
-    requires fits { adopt_refusal contents inv (woken contents dsa inv) ≡ None }
-    ensures { IfOk result (λ state. state ≡ woken contents dsa inv) }
-{
-    match wake(alloc, contents, dsa, inv) {
-        Ok(state) => Ok(state),
-        Err(Failure::NoMemory) => Err(AllocError),
-        Err(Failure::Refused(_)) => unreachable!(),
-    }
-}
-
 /// A controller of a database, whose rows are moved, under an identifier that it doesn't name.
 pub fn adopt(
     alloc: Global,
@@ -59,6 +45,6 @@ pub fn adopt(
 {
     match adopt_refusal(&contents, inv) {
         Some(refusal) => Err(Failure::Refused(refusal)),
-        None => Ok(woken(alloc, contents, dsa, inv)?),
+        None => Ok(unless_full(wake(alloc, contents, dsa, inv))?),
     }
 }

@@ -6,15 +6,15 @@ ghost use Rattle.adr_law_calls.specs.Follow.{CanFollow, HasKnownClasses};
 ghost use Rattle.adr_model.specs.Spelled.{IsSpelledChange};
 ghost use Rattle.adr_law_calls.specs.Tested.{can_follow, writes_pass};
 
-use crate::NoMemory;
-use crate::numbers::keeps_schema;
+use crate::numbers::{are_in_order, comes_after};
 use crate::removed::are_removable;
+use crate::schema::keeps_schema;
 use crate::touched::are_touched_formed;
-use crate::vectors::{are_in_order, comes_after};
 use crate::writes::may_follow_in_turn;
 use adr_law_calls::changes_are_tested;
 use adr_overlay::Overlay;
 use adr_state::{Change, State};
+use adr_values::NoMemory;
 use std::alloc::Global;
 
 /// Whether a change that was read can follow a state. The time that it takes goes by what the change writes, not by what

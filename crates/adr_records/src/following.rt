@@ -7,10 +7,10 @@ ghost use Rattle.adr_records.specs.Logged.{IsLogged};
 
 use crate::follow::can_follow;
 use crate::head::AREA_VERSION;
+use crate::waking::unless_full;
 use adr_image::decode_change;
 use adr_journal::FollowRefusal;
 use adr_state::{Change, State};
-use adr_values::Failure;
 use std::alloc::Global;
 
 /// Whether what is written has local update sequence numbers up to the one after the change.
@@ -37,10 +37,9 @@ fn apply_read(alloc: Global, state: &mut State, change: Change) -> Result<(), Fo
         Ok(false) => return Err(FollowRefusal::CannotFollow),
         Err(_) => return Err(FollowRefusal::NoMemory),
     }
-    match state.apply(change) {
+    match unless_full(state.apply(change)) {
         Ok(()) => Ok(()),
-        Err(Failure::NoMemory) => Err(FollowRefusal::NoMemory),
-        Err(Failure::Refused(_)) => unreachable!(),
+        Err(_) => Err(FollowRefusal::NoMemory),
     }
 }
 

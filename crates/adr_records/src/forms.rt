@@ -1,8 +1,7 @@
 //! What rows of an object that is formed may say.
 
-ghost use Rattle.std.specs.Prelude.{◌≡◌, is_none};
+ghost use Rattle.std.specs.Prelude.{◌≡◌};
 ghost use Rattle.std.specs.List.{list_all};
-ghost use Rattle.std.specs.Result.{result_err};
 ghost use Rattle.adr_values.specs.Table.{is_forward, kind_at};
 ghost use Rattle.adr_model.specs.Take.{is_reserved_row};
 ghost use Rattle.adr_update.specs.Said.{said_of};
@@ -11,20 +10,14 @@ ghost use Rattle.adr_law_calls.specs.Tested.{fits_class, is_class_known, says_al
 use adr_checks::{Schema, check_name};
 use adr_overlay::is_reserved;
 use adr_update::{CLASS, Held, Key, NAME, Said, Update};
-use adr_values::{Content, SchemaRefusal};
-
-fn is_allowed(checked: Result<(), SchemaRefusal>) -> bool
-    ensures { result ≡ is_none (result_err checked) }
-{
-    checked.is_ok()
-}
+use adr_values::Content;
 
 /// Whether a class is said, and the schema has it.
 pub(crate) fn is_class_known(schema: Schema, class: Option<u16>) -> bool
     ensures { result ≡ is_class_known schema class }
 {
     match class {
-        Some(class) => is_allowed(schema.check_class(class)),
+        Some(class) => schema.check_class(class).is_ok(),
         None => false,
     }
 }
@@ -33,7 +26,7 @@ pub(crate) fn is_class_known(schema: Schema, class: Option<u16>) -> bool
 pub(crate) fn is_forward(schema: Schema, attr: u16) -> bool
     ensures { result ≡ is_forward (kind_at schema attr) }
 {
-    is_allowed(schema.check_link_row(attr))
+    schema.check_link_row(attr).is_ok()
 }
 
 /// Whether a row says a name that is allowed.
@@ -41,7 +34,7 @@ pub(crate) fn says_allowed_name(said: &Said) -> bool
     ensures { result ≡ says_allowed_name (said_of said.now) }
 {
     match said {
-        Said::Holds(Content::Name { text, .. }) => is_allowed(check_name(text.as_str())),
+        Said::Holds(Content::Name { text, .. }) => check_name(text.as_str()).is_ok(),
         _ => false,
     }
 }
@@ -62,7 +55,9 @@ fn fits_class(schema: Schema, class: u16, row: &Update) -> bool
 {
     match (row.key(), row.said()) {
         (Key::Row { attr, .. }, Said::Holds(Content::Values(values))) => {
-            is_allowed(schema.check_values(Some(class), attr, values.items()))
+            schema
+                .check_values(Some(class), attr, values.items())
+                .is_ok()
         }
         (Key::Row { attr, .. }, Said::Holds(Content::Class(_))) => attr == CLASS,
         (Key::Row { attr, .. }, Said::Holds(Content::Name { .. })) => attr == NAME,

@@ -9,13 +9,13 @@ ghost use Rattle.adr_records.specs.HeadLaws.{IsOwn};
 ghost use Rattle.adr_records.specs.Logged.{IsLogged};
 
 use crate::contents::image_of;
-use crate::waking::wake;
+use crate::waking::{unless_full, wake};
 use adr_image::{Contents, read_image};
 use adr_journal::{AreaRead, Owner};
 use adr_state::State;
 use adr_values::{Failure, Guid, NoMemory};
 use adr_wire::{Malformed, Reader, WireRefusal, Writer};
-use std::alloc::{AllocError, Global};
+use std::alloc::Global;
 
 /// The bytes with which a log begins behind its first gate.
 const MAGIC: [u8; 4] = [65, 68, 74, 76];
@@ -176,11 +176,7 @@ fn woken(alloc: Global, contents: Contents, owner: Owner, len: u32) -> Result<St
     requires { IsOwn owner.inv len contents }
     ensures { IfOk result (λ state. state ≡ form.state_of (owner.dsa, owner.inv) contents) }
 {
-    match wake(alloc, contents, owner.dsa, owner.inv) {
-        Ok(state) => Ok(state),
-        Err(Failure::NoMemory) => Err(AllocError),
-        Err(Failure::Refused(_)) => unreachable!(),
-    }
+    unless_full(wake(alloc, contents, owner.dsa, owner.inv))
 }
 
 /// Reads the area at a place, in bytes, of a log of this owner.

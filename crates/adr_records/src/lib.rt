@@ -17,12 +17,11 @@ mod head;
 mod numbers;
 mod records;
 mod removed;
+mod schema;
 mod touched;
-mod vectors;
 mod waking;
 mod writes;
 
 pub use adopting::adopt;
-pub use adr_journal::{Change, FollowRefusal, Form, NoMemory, State};
 pub use contents::image_of;
 pub use records::Records;

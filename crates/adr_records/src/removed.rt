@@ -6,11 +6,10 @@ ghost use Rattle.adr_values.specs.Order.{object_order};
 ghost use Rattle.adr_values.specs.Vector.{covers, joined};
 ghost use Rattle.adr_law_calls.specs.Tested.{are_removable, is_removable};
 
-use crate::NoMemory;
 use adr_overlay::Overlay;
 use adr_state::Change;
 use adr_update::Key;
-use adr_values::{Guid, Oid, Vector, seen_by_both};
+use adr_values::{Guid, NoMemory, Oid, Vector, seen_by_both};
 use std::alloc::Global;
 use std::collections::BTreeSet;
 

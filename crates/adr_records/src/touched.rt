@@ -13,7 +13,6 @@ ghost use Rattle.adr_values.specs.Table.{must_of};
 ghost use Rattle.adr_update.specs.Key.{key_of};
 ghost use Rattle.adr_law_calls.specs.Tested.{all_of_object, are_touched_formed, fits_class, is_alive_formed, is_formed_by, is_object_formed, is_touched_formed};
 
-use crate::NoMemory;
 use crate::forms::{
     all_fit, all_reserved, is_class_known, is_forward, says_allowed_name, says_dead,
 };
@@ -22,7 +21,7 @@ use adr_checks::Schema;
 use adr_overlay::{Overlay, class_said, is_birth};
 use adr_state::Change;
 use adr_update::{CLASS, Held, Key, NAME};
-use adr_values::{Oid, Unit};
+use adr_values::{NoMemory, Oid, Unit};
 use std::alloc::Global;
 use std::collections::BTreeSet;
 

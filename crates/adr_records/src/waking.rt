@@ -1,6 +1,7 @@
 //! A controller is made of what an image says.
 
-ghost use Rattle.std.specs.Prelude.{◌≡◌, ◌<◌, [], IfOk, OnOk, IsErrOf, length};
+ghost use Rattle.std.specs.Prelude.{◌≡◌, ◌<◌, [], Ok, Err, IfOk, OnOk, OnErr, IsErrOf, length};
+ghost use Rattle.adr_values.specs.declared.failure.Failure.TheVariants.{NoMemory as no_memory};
 ghost use Rattle.adr_values.specs.Refusal.{full};
 ghost use Rattle.adr_values.specs.Vector.{cursor_limit, raised};
 ghost use Rattle.adr_model.specs.Collect.{woken};
@@ -10,8 +11,8 @@ ghost use Rattle.adr_records.specs.Woken.{unmade, with_marks};
 
 use adr_image::Contents;
 use adr_state::{Full, Marks, State};
-use adr_values::{Failure, Guid};
-use std::alloc::Global;
+use adr_values::{Failure, Guid, NoMemory};
+use std::alloc::{AllocError, Global};
 
 /// Makes all of an empty controller.
 fn fill(alloc: Global, state: &mut State, contents: Contents) -> Result<(), Failure<Full>>
@@ -44,4 +45,17 @@ pub(crate) fn wake(
     let mut state = State::new(alloc, dsa, inv, contents.schema);
     fill(alloc, &mut state, contents)?;
     Ok(state)
+}
+
+/// What a call gave that can't be refused as full: memory alone may be wanting.
+pub(crate) fn unless_full<T>(given: Result<T, Failure<Full>>) -> Result<T, NoMemory>
+    requires { IsErrOf given full → ⊥ }
+    ensures ok { IfOk result (λ made. given ≡ Ok made) }
+    ensures err { OnErr result (given ≡ Err no_memory) }
+{
+    match given {
+        Ok(made) => Ok(made),
+        Err(Failure::NoMemory) => Err(AllocError),
+        Err(Failure::Refused(_)) => unreachable!(),
+    }
 }

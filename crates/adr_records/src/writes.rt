@@ -13,13 +13,12 @@ ghost use Rattle.adr_law_calls.specs.Tested.{are_within_limits, may_follow, may_
 ghost use Rattle.adr_overlay.specs.Presence.{defined};
 ghost use Rattle.adr_overlay.specs.Standing.{IsStanding};
 
-use crate::NoMemory;
 use adr_checks::Schema;
 use adr_overlay::{
     Overlay, Presence, Standing, is_above, is_of_attr, lacks, new_object, standing_of,
 };
 use adr_update::{DELETED, Item, LINK_LIMIT, OBJECT_LIMIT, Update, Written};
-use adr_values::Vector;
+use adr_values::{NoMemory, Vector};
 use std::alloc::Global;
 
 /// Whether each write may follow at its turn, with the vector before the first, and no table is over its limit behind it.

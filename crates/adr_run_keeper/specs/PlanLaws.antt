@@ -14,7 +14,7 @@ use Rattle.adr_wire.specs.Reading.{Reading}
 use Rattle.adr_wire.specs.Fields.{u32}
 use Rattle.adr_model.specs.Store.{State, Store}
 use Rattle.adr_model.specs.Change.{Change, after}
-use Rattle.adr_model.specs.Lengths.{Log, log_version, length_limit, log_limit, change_length, image_length, is_due, checkpointed, log_after, next_log, change_fits}
+use Rattle.adr_model.specs.Lengths.{Log, area_version, length_limit, log_limit, change_length, image_length, is_due, checkpointed, log_after, next_log, change_fits}
 use Rattle.adr_model.specs.Replica.{Replica, Pending, Book}
 use Rattle.adr_law_journal.specs.Log.{Following, with_length, record_of}
 use Rattle.adr_law_journal.specs.Areas.{Began, Found, Started, start_of, TellsArea}
@@ -117,8 +117,8 @@ module _ {K : Type 0} (head : Reading Ids) (area : Ids → Reading (Began State)
   module _ (k new : K) (log next : Log) (areas written image body : List ℕ) (c : Change) (book : Book) (r : Replica) (p : Pending)
       (at : IsAt head area following (λ (d : DiskState). Some (read_of d.held.surface)) (λ (d : DiskState) bytes. IsImage d.held.surface bytes) (disk k) log (safe_found r))
       (before : IsAreaFor log c image areas) (leads : next ≡ next_log log r.safe.store c) (fits : change_fits log r.safe.store c ≡ true)
-      (tells : image_length r.safe.store < length_limit → (place : ℕ) → TellsArea (area (ids_of r.safe)) place image log_version r.safe) (image_long : image_length r.safe.store < length_limit → length image ≡ 6 + image_length r.safe.store)
-      (follows : following log_version r.safe body ≡ Some (after r.safe c)) (long : length body ≡ change_length c)
+      (tells : image_length r.safe.store < length_limit → (place : ℕ) → TellsArea (area (ids_of r.safe)) place image area_version r.safe) (image_long : image_length r.safe.store < length_limit → length image ≡ 6 + image_length r.safe.store)
+      (follows : following area_version r.safe body ≡ Some (after r.safe c)) (long : length body ≡ change_length c)
       (up : is_stopped k ≡ false) (same : read_found r ≡ safe_found r) (h : has k r) (of_p : p.change ≡ c) where
     abbrev l : Layout Ids State
     l = layout_of head area following at.front (ids_of r.safe) at.is_head

@@ -300,8 +300,7 @@ fn local_in(row: &Option<Held>) -> Option<u64>
 pub fn is_life(object: &Oid, row: &Held) -> bool
     ensures { result ≡ is_life object.now row.now }
 {
-    let key = row.key();
-    key.is_row_of(object) && key.killed().is_none()
+    row.key().is_life_of(object)
 }
 
 /// Takes the first of rows, if it is an object's and no death.

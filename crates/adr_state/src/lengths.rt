@@ -17,10 +17,15 @@ use std::marker::Model;
 pub const LENGTH_LIMIT: u64 = 4_294_967_296;
 
 /// The version of the areas that are written.
-const LOG_VERSION: u16 = 1;
+const AREA_VERSION: u16 = 1;
 
-/// The place of the area of a new log.
-const FIRST_AREA: u64 = 56;
+/// The place of the area of a new log, and the first at which any area stands, in bytes.
+pub const FIRST_AREA: u64 = 56;
+
+/// How many bytes of an area stand in front of its image, and how many beside it: those, and its closed gate.
+pub const AREA_FRONT: u64 = 6;
+
+pub const AREA_FRAME: u64 = 7;
 
 /// Where a log stands on a disk: whether the second slot selects its area, the area's place and version, the place of
 /// the first gate behind the area's image, and where the log ends, behind its closed gate; all places in bytes.
@@ -73,9 +78,9 @@ impl Log {
         Log {
             second,
             place,
-            version: LOG_VERSION,
-            first: place + 6 + image,
-            end: place + 7 + image,
+            version: AREA_VERSION,
+            first: place + AREA_FRONT + image,
+            end: place + AREA_FRAME + image,
         }
     }
 
@@ -119,11 +124,14 @@ impl Log {
         requires { self.now.first < 2 ^ 63 }
         ensures { result ≡ is_due self.now change.now }
     {
-        let image = self.first.saturating_sub(self.place).saturating_sub(6);
+        let image = self
+            .first
+            .saturating_sub(self.place)
+            .saturating_sub(AREA_FRONT);
         let records = self.end.saturating_sub(self.first).saturating_sub(1);
         let record = sum_within(u64::MAX, 5, change_length_within(change, u64::MAX));
         let after = sum_within(u64::MAX, records, record);
-        0 < records && image + 65536 < after || self.version < LOG_VERSION
+        0 < records && image + 65536 < after || self.version < AREA_VERSION
     }
 
     /// The log after a checkpoint of a state whose image is so long: a new area in the other slot, before the live one
@@ -133,7 +141,7 @@ impl Log {
         requires short { image < length_limit }
         ensures { (s : Store) → image ≡ image_length s → result ≡ checkpointed self.now s }
     {
-        let place = if FIRST_AREA + 7 + image <= self.place {
+        let place = if FIRST_AREA + AREA_FRAME + image <= self.place {
             FIRST_AREA
         } else {
             self.end

@@ -25,7 +25,7 @@ pub use adr_update::{
 pub use adr_values::{
     CURSOR_LIMIT, Content, Failure, Full, LinkKey, LinkStamp, Mark, NoMemory, Oid, Unit, Vector,
 };
-pub use lengths::{LENGTH_LIMIT, Log, item_length_within};
+pub use lengths::{AREA_FRAME, AREA_FRONT, FIRST_AREA, LENGTH_LIMIT, Log, item_length_within};
 pub use marks::Marks;
 pub use rows::Rows;
 pub use state::State;

@@ -14,7 +14,6 @@ use Rattle.std.proofs.lemmas.List.Sums.{fold-append}
 use Rattle.adr_values.specs.declared.stamp.LinkKey.{LinkKey}
 use Rattle.adr_values.specs.declared.stamp.Oid.{Oid}
 use Rattle.adr_values.specs.Order.{object_order}
-use Rattle.adr_values.specs.contracts.stamp.OidOrd.TheImpl.Laws.{total-law as objects_total}
 use Rattle.adr_values.proofs.ExactOrders.{exact_objects}
 use Rattle.adr_model.proofs.Keys.{equal_order}
 use Rattle.adr_model.proofs.Members.{member_left, member_right}
@@ -256,12 +255,6 @@ life_parts o h is = let t = and_parts (is_row_of o h.update.key) (is_none (kille
     by : (r : Option Oid) → is_none r ≡ true → r ≡ None
     by None none = refl
     by (Some p) none = cc
-
--- a row of the object that kills nothing is one
-pub is_one : (o : Oid) (h : Held) (a : ℕ) → h.update.key ≡ RowOf o a → killed_by h.update.key ≡ None → is_life o h ≡ true
-is_one o h a own none =
-    ap (λ r. is_row_of o h.update.key && is_none r) none
-    ∙ ap (λ b. b && true) (ap (is_row_of o) own ∙ ap is_eq (tied_itself objects_total o))
 
 -- those at the front are its rows
 pub front_lives : (o : Oid) (hs : List Held) → Each (λ h. is_row_of o h.update.key ≡ true) (front (is_life o) hs)

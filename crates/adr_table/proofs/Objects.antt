@@ -5,7 +5,7 @@ use Rattle.std.specs.List.{cons_option, list_all, list_any}
 use Rattle.std.specs.List.Sorted.{IsStrictlySortedBy}
 use Rattle.std.specs.Map.{keys_of, lookup}
 use Rattle.std.specs.BTreeMap.{is_at}
-use Rattle.std.specs.BTreeSet.{BTreeSet}
+use Rattle.std.specs.BTreeSet.{BTreeSet, contains}
 use Rattle.std.specs.Ordering.{is_eq}
 use Rattle.std.proofs.lemmas.Cmp.{tied_itself}
 use Rattle.std.proofs.lemmas.List.Folds.{fold-map}
@@ -14,6 +14,7 @@ use Rattle.adr_values.specs.declared.stamp.LinkKey.{LinkKey}
 use Rattle.adr_values.specs.declared.stamp.Oid.{Oid}
 use Rattle.adr_values.specs.declared.stamp.Unit.TheVariants.{Object}
 use Rattle.adr_values.specs.contracts.stamp.OidOrd.TheImpl.Laws.{total-law as objects_total}
+use Rattle.adr_model.proofs.Keys.{equal_order}
 use Rattle.adr_model.proofs.Members.{all_pass, each_fails, each_passes, mapped_member}
 use Rattle.adr_model.specs.Change.{put}
 use Rattle.adr_model.specs.Live.{born}
@@ -21,12 +22,15 @@ use Rattle.adr_model.specs.Member.{Each}
 use Rattle.adr_model.specs.Store.{Held, holds_object, is_row_of, row_held, with_row}
 use Rattle.adr_model.specs.Update.{Key, RowOf, LinkOf, Update, class_attr, same_unit, unit_of}
 use Rattle.adr_shelves.specs.declared.place.Place.{Place}
-use Rattle.adr_shelves.specs.Place.{is_of_class, is_of_link, is_of_unit, place_of, place_order, rows_start}
+use Rattle.adr_shelves.specs.Place.{is_of_class, is_of_link, is_of_unit, place_of, place_order, rows_start, seat_at}
 use Rattle.adr_shelves.specs.Shelves.{flat, freed, held_at, is_life, is_life_of, one_more_if, tally, with_held, with_update, without_unit}
 use Rattle.adr_shelves.proofs.Entries.{AreSorted, Entries}
+use Rattle.adr_shelves.proofs.Places.{exact_places}
+use Rattle.adr_table.specs.declared.locals.Local.{Local}
 use Rattle.adr_table.specs.declared.slots.Slots.{Slots}
 use Rattle.adr_table.specs.Slots.{AreAtHome, IsTidy, rows_seen, seen}
 use Rattle.adr_table.specs.Deaths.{AreListed, IsListed}
+use Rattle.adr_table.specs.Locals.{IsLocated, IsNamed, local_order}
 use Rattle.adr_table.proofs.Fills.{AreFilled, filled, has_class, life_parts, lives_listed as held_listed, lives_put as held_put}
 use Rattle.adr_table.proofs.Hinted.{is_held}
 use Rattle.adr_table.proofs.LocalsSeats.{same_unit_is, seat_is}
@@ -175,3 +179,10 @@ pub lives_listed : {T E : Type 0} (local : ℕ) (r : Result T E) (o : Oid) (us :
     → OnOk r (rows_seen new ≡ fold with_row (rows_seen old) (map (held_at local) us)) → OnErr r (rows_seen new ≡ rows_seen old) → AreListed new dead
 lives_listed local (Ok x) o us old new dead all listed put same = held_listed o (map (held_at local) us) old new dead (lives o local us all) listed put
 lives_listed local (Err e) o us old new dead all listed put same = subst (Each (λ h. IsListed dead h.update.key)) (sym same) listed
+
+-- what is kept for an object under a row's number is the hint of that row
+pub named_located : (locals : BTreeSet Local) (o : Oid) (h : Held) → is_row_of o h.update.key ≡ true → IsNamed locals o h.local → IsLocated locals h
+named_located locals o h own named =
+    let k = h.update.key in
+    let there = exact_places (rows_start o) (seat_at (place_of k)) (equal_order (place_order (rows_start o) (seat_at (place_of k))) (of_unit o k ∙ own)) in
+    subst (λ (p : Place). contains local_order locals (record { usn = h.local; unit = Some p }) ≡ true) (there ∙ seat_is k) named

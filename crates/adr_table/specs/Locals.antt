@@ -15,7 +15,7 @@ use Rattle.adr_model.specs.Store.{Held}
 use Rattle.adr_shelves.specs.declared.place.Place.{Place}
 use Rattle.adr_table.specs.declared.slots.Slots.{Slots}
 use Rattle.adr_table.specs.declared.locals.Local.{Local}
-use Rattle.adr_shelves.specs.Place.{place_of, place_order, seat_at}
+use Rattle.adr_shelves.specs.Place.{place_of, place_order, rows_start, seat_at}
 use Rattle.adr_table.specs.Slots.{rows_seen}
 
 abbrev pub local_order : Local → Local → Ordering
@@ -43,6 +43,10 @@ local_of h = record { usn = h.local; unit = Some (unit_place (unit_of h.update.k
 -- the row has its hint
 abbrev pub IsLocated : BTreeSet Local → Held → Type 0
 IsLocated locals h = contains local_order locals (local_of h) ≡ true
+
+-- an object has its hint under a number
+abbrev pub IsNamed : BTreeSet Local → Oid → ℕ → Type 0
+IsNamed locals o usn = contains local_order locals (record { usn = usn; unit = Some (rows_start o) }) ≡ true
 
 -- each row that is seen has its hint; a hint may have no row
 abbrev pub AreLocated : Slots → BTreeSet Local → Type 0

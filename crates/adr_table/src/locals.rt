@@ -1,15 +1,16 @@
 //! Which units may have a row with a local update sequence number.
 
 ghost use Rattle.std.specs.Prelude.{◌≡◌, OnOk, IfOk, IfSome, IsTrue, Some, None, true};
-ghost use Rattle.std.specs.List.{list_any};
+ghost use Rattle.std.specs.List.{list_all, list_any};
 ghost use Rattle.std.specs.BTreeMap.{is_at};
 ghost use Rattle.std.specs.BTreeSet.{contains};
 ghost use Rattle.adr_model.specs.Member.{Each};
 ghost use Rattle.adr_model.specs.Store.{Held as Row};
 ghost use Rattle.adr_update.specs.Sought.{IsNextLocal, units_at};
 ghost use Rattle.adr_shelves.specs.Place.{place_order, seat_at};
+ghost use Rattle.adr_shelves.specs.Shelves.{is_life};
 ghost use Rattle.adr_table.specs.Slots.{IsTidy, rows_seen};
-ghost use Rattle.adr_table.specs.Locals.{AreLocated, IsLocated, above, greatest, is_last, local_of, local_order, rows_of_seat, unit_at, unit_hinted};
+ghost use Rattle.adr_table.specs.Locals.{AreLocated, IsLocated, IsNamed, above, greatest, is_last, local_of, local_order, rows_of_seat, unit_at, unit_hinted};
 
 use crate::NoMemory;
 use crate::slots::Slots;
@@ -92,17 +93,40 @@ pub(crate) fn remember(
     }
 }
 
-/// Keeps the hints of rows.
-pub(crate) fn remember_all(locals: &mut BTreeSet<Local>, rows: &[Held]) -> Result<(), NoMemory>
+/// Keeps the hints of rows of an object. Those under one number share theirs.
+pub(crate) fn remember_all(
+    locals: &mut BTreeSet<Local>,
+    object: &Oid,
+    rows: &[Held],
+) -> Result<(), NoMemory>
+    requires { list_all (is_life object.now) rows.now ≡ true }
     ensures more { (h : Row) → IsLocated locals.old h → IsLocated locals.new h }
     ensures ok { OnOk result (Each (IsLocated locals.new) rows.now) }
 {
-    let mut before = None;
+    let mut last = None;
     for row in rows {
-        remember(locals, before, row)?;
-        before = Some(row);
+        let usn = row.local();
+        insert_behind(locals, last, usn, object)?;
+        last = Some(usn);
     }
     Ok(())
+}
+
+/// Keeps the hint of an object under a number, which is kept already if the number is the one before.
+fn insert_behind(
+    locals: &mut BTreeSet<Local>,
+    last: Option<u64>,
+    usn: u64,
+    object: &Oid,
+) -> Result<(), NoMemory>
+    requires { IfSome last (λ n. IsNamed locals.old object.now n) }
+    ensures more { (h : Row) → IsLocated locals.old h → IsLocated locals.new h }
+    ensures ok { OnOk result (IsNamed locals.new object.now usn) }
+{
+    match last {
+        Some(last) if last == usn => Ok(()),
+        _ => insert(locals, usn, Place::before_rows(object)),
+    }
 }
 
 fn insert(locals: &mut BTreeSet<Local>, usn: u64, unit: Place) -> Result<(), NoMemory>

@@ -151,7 +151,7 @@ impl Table {
         if !self.slots.reserve_object(object, rows)? {
             return Ok(false);
         }
-        locals::remember_all(&mut self.locals, rows)?;
+        locals::remember_all(&mut self.locals, object, rows)?;
         Ok(true)
     }
 

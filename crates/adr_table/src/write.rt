@@ -91,9 +91,8 @@ pub(crate) fn life_of(row: &Held) -> Option<Oid>
     ensures { IfSome result (λ o. is_life o row.now ≡ true) }
 {
     let key = row.key();
-    let dies = key.killed().is_some();
-    match key {
-        Key::Row { object, .. } if !dies => Some(object),
+    match &key {
+        Key::Row { object, .. } if key.is_life_of(object) => Some(*object),
         _ => None,
     }
 }

@@ -10,7 +10,7 @@ use Rattle.adr_call.specs.declared.report.Report.TheVariants.{Directory}
 use Rattle.adr_call.specs.declared.outcome.Outcome.TheVariants as outcomes
 use Rattle.adr_call.specs.declared.directory.Entry.{Entry}
 use Rattle.adr_model.specs.Change.{Change}
-use Rattle.adr_model.specs.Lengths.{Log, first_area, log_version, is_due, checkpointed}
+use Rattle.adr_model.specs.Lengths.{Log, first_area, area_version, is_due, checkpointed}
 use Rattle.adr_model.specs.Collect.{quarantine}
 use Rattle.adr_disk.specs.declared.memory.Mishap.{Mishap}
 use Rattle.adr_disk.specs.declared.memory.Mishap.TheVariants.{Fails, Stops}
@@ -24,7 +24,7 @@ use Rattle.adr_test_definitions.specs.Logs.{full_log}
 
 -- a log in this slot, whose area stands at a place, with the 38 bytes of the first controller's image, and which ends here
 abbrev pub log_at : Bool → ℕ → ℕ → Log
-log_at slot place end = record { second = slot; place = place; version = log_version; first = place + 44; log_end = end }
+log_at slot place end = record { second = slot; place = place; version = area_version; first = place + 44; log_end = end }
 
 -- with the live area in the first slot, and in the second one
 abbrev pub in_both : {A : Type 0} → (Bool → A) → List A

@@ -8,7 +8,7 @@ use Rattle.adr_call.specs.declared.report.Report.TheVariants.{Directory}
 use Rattle.adr_call.specs.declared.outcome.Plainly.TheVariants.{Number, Word}
 use Rattle.adr_call.specs.declared.outcome.Outcome.TheVariants as outcomes
 use Rattle.adr_model.specs.Place.{identifier}
-use Rattle.adr_model.specs.Lengths.{first_area, log_version, new_log}
+use Rattle.adr_model.specs.Lengths.{first_area, area_version, new_log}
 use Rattle.adr_model.specs.Replica.{on_disk}
 use Rattle.adr_model.specs.Refused.{field, rolled_back}
 use Rattle.adr_model.specs.World.{World, empty_world, answer, replica_at}
@@ -21,7 +21,7 @@ abbrev pub with_log : ℕ → World
 with_log end =
     record empty_world {
       replicas =
-          on_disk (codes "A") first (record { second = false; place = first_area; version = log_version; first = end - 1; log_end = end })
+          on_disk (codes "A") first (record { second = false; place = first_area; version = area_version; first = end - 1; log_end = end })
           ∷ on_disk (codes "B") second (new_log second)
           ∷ [];
     }

@@ -8,7 +8,7 @@ use Rattle.adr_wire.specs.Fields.{u64}
 use Rattle.adr_wire.specs.Reading.{Reading}
 use Rattle.adr_model.specs.Store.{State}
 use Rattle.adr_model.specs.Change.{Change, after}
-use Rattle.adr_model.specs.Lengths.{Log, log_version, length_limit, image_length, change_length}
+use Rattle.adr_model.specs.Lengths.{Log, area_version, length_limit, image_length, change_length}
 use Rattle.adr_law_journal.specs.Log.{Following, open_gate}
 use Rattle.adr_law_journal.specs.Areas.{Began, Found, Started, start_of, selects_second, selector_place, slot_place, TellsArea}
 use Rattle.adr_law_journal.specs.Commits.{selector_of}
@@ -112,8 +112,8 @@ module _ (head : Reading Ids) (area : Ids → Reading (Began State)) (following 
 
   -- what it is ready for
   pub ready_for : (capacity : ℕ) (bytes : List ℕ) (log next : Log) (new_area written image body : List ℕ) (f : Found State) (c : Change) → IsAtBytes head area following bytes log f → IsNext capacity bytes log next new_area written image body f.state c
-      → following log_version f.state body ≡ Some (after f.state c) → length body ≡ change_length c
-      → (image_length f.state.store < length_limit → (place : ℕ) → TellsArea (area (ids_of f.state)) place image log_version f.state) → (image_length f.state.store < length_limit → length image ≡ 6 + image_length f.state.store)
+      → following area_version f.state body ≡ Some (after f.state c) → length body ≡ change_length c
+      → (image_length f.state.store < length_limit → (place : ℕ) → TellsArea (area (ids_of f.state)) place image area_version f.state) → (image_length f.state.store < length_limit → length image ≡ 6 + image_length f.state.store)
       → IsReadyFor head area following told_as StaysAs (λ there. 9) (λ there. length new_area + 9 + length written + 1) bytes log next new_area written image body f c
   ready_for capacity bytes log next new_area written image body f c at is_next follows long tells area_long = record {
     at = at;

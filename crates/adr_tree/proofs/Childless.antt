@@ -10,7 +10,7 @@ use Rattle.adr_tree.specs.Hints.{child_hint, is_in_run}
 use Rattle.adr_tree.specs.Children.{HasNoChild}
 
 abbrev pub start_at : Identifier → Hint
-start_at guid = record { parent = guid; name = None; guid = None }
+start_at guid = record { parent = guid; number = None; guid = None }
 
 -- the hint of a child is of the run that begins there
 pub children_run : (guid : Identifier) (m : Node) → same_identifier m.parent guid ≡ true → is_in_run (start_at guid) (child_hint m) ≡ true

@@ -139,11 +139,11 @@ is_parent all guid live free = (second (same_identifier guid root) (same_identif
     second true b e = cc
     second false b e = e
 
-pub child_run : (all : List Node) (parent : Identifier) → IsParent all parent → (m : Node) → same_identifier (place all m) parent ≡ true → is_in_run (record { parent = parent; name = None; guid = None }) (child_hint m) ≡ true
+pub child_run : (all : List Node) (parent : Identifier) → IsParent all parent → (m : Node) → same_identifier (place all m) parent ≡ true → is_in_run (record { parent = parent; number = None; guid = None }) (child_hint m) ≡ true
 child_run all parent ok m placed = ap (λ p. same_identifier parent p && true) (written all parent ok m placed) ∙ ap (λ b. b && true) (itself parent)
 
 pub name_run : (all : List Node) (parent : Identifier) → IsParent all parent → (name : List ℕ) (number : ℕ) → number ≡ number_of name → (m : Node) → is_called all parent name m ≡ true
-    → is_in_run (record { parent = parent; name = Some number; guid = None }) (name_hint m) ≡ true
+    → is_in_run (record { parent = parent; number = Some number; guid = None }) (name_hint m) ≡ true
 name_run all parent ok name number is m called =
     let t = and_parts (same_identifier (place all m) parent) (bytes_eq (folded m.text) name) called in
     let same : folded m.text ≡ name = (bytes_decides (folded m.text) name).0 t.1 in

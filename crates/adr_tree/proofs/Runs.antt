@@ -34,9 +34,9 @@ exact_options R exact (Some x) (Some y) h = ap Some (exact x y h)
 
 pub exact_hints : CmpEqualImpliesEq hint_order
 exact_hints a b h =
-    ap (λ (p : Identifier × (Option ℕ × Option Identifier)). let q : Hint = record { parent = p.0; name = p.1.0; guid = p.1.1 } in q)
+    ap (λ (p : Identifier × (Option ℕ × Option Identifier)). let q : Hint = record { parent = p.0; number = p.1.0; guid = p.1.1 } in q)
     (exact_pairs _ _ exact_bytes (exact_pairs _ _ (exact_options nat_cmp exact_unsigned) (exact_options identifier_order exact_bytes))
-    (a.parent, (a.name, a.guid)) (b.parent, (b.name, b.guid)) h)
+    (a.parent, (a.number, a.guid)) (b.parent, (b.number, b.guid)) h)
 
 pub told_apart : (q h : Hint) → is_at (hint_order q) h ≡ true → q ≡ h
 told_apart q h at = exact_hints q h (equal_order (hint_order q h) at)
@@ -48,13 +48,13 @@ itself_at h = ap is_eq (tied_itself hints_total h)
 
 -- a hint without its GUID
 abbrev bare : Hint → Hint
-bare h = record { parent = h.parent; name = h.name; guid = None }
+bare h = record { parent = h.parent; number = h.number; guid = None }
 
 runs_total : IsTotalOrder (λ (a b : Hint). hint_order (bare a) (bare b))
 runs_total = on_total bare hints_total
 
 in_bare : (a b : Hint) → is_in_run a b ≡ is_eq (hint_order (bare a) (bare b))
-in_bare a b = by (identifier_order a.parent b.parent) (option_cmp nat_cmp a.name b.name)
+in_bare a b = by (identifier_order a.parent b.parent) (option_cmp nat_cmp a.number b.number)
   where
     by : (o p : Ordering) → (is_eq o && is_eq p) ≡ is_eq (ordering_then o (ordering_then p Equal))
     by Less p = refl
@@ -64,7 +64,7 @@ in_bare a b = by (identifier_order a.parent b.parent) (option_cmp nat_cmp a.name
     by Greater p = refl
 
 bare_le : (a b : Hint) → IsLeBy hint_order a b → is_gt (hint_order (bare a) (bare b)) ≡ false
-bare_le a b h = by (identifier_order a.parent b.parent) (option_cmp nat_cmp a.name b.name) (option_cmp identifier_order a.guid b.guid) h
+bare_le a b h = by (identifier_order a.parent b.parent) (option_cmp nat_cmp a.number b.number) (option_cmp identifier_order a.guid b.guid) h
   where
     by : (o p q : Ordering) → is_gt (ordering_then o (ordering_then p q)) ≡ false → is_gt (ordering_then o (ordering_then p Equal)) ≡ false
     by Less p q h = refl
@@ -145,7 +145,7 @@ begins start hs left is sorted =
 
 -- a hint of the run is not before its start
 pub from_start : (start q : Hint) → start.guid ≡ None → is_in_run start q ≡ true → range_contains hint_order (Included start) Unbounded q ≡ true
-from_start start q bare_start in_run = by (identifier_order start.parent q.parent) (option_cmp nat_cmp start.name q.name) start.guid q.guid bare_start in_run
+from_start start q bare_start in_run = by (identifier_order start.parent q.parent) (option_cmp nat_cmp start.number q.number) start.guid q.guid bare_start in_run
   where
     by : (o p : Ordering) (a b : Option Identifier) → a ≡ None → (is_eq o && is_eq p) ≡ true → (is_le (ordering_then o (ordering_then p (option_cmp identifier_order a b))) && not false) ≡ true
     by Less p a b e h = refl
@@ -165,7 +165,7 @@ left_of_run start bare_start hs left is q in_run any =
 
 -- in a run the order is that of the GUIDs
 pub guid_less : (start h q : Hint) → is_in_run start h ≡ true → is_in_run start q ≡ true → hint_order h q ≡ Less → option_cmp identifier_order h.guid q.guid ≡ Less
-guid_less start h q in_h in_q less = by (identifier_order h.parent q.parent) (option_cmp nat_cmp h.name q.name) (option_cmp identifier_order h.guid q.guid) same less
+guid_less start h q in_h in_q less = by (identifier_order h.parent q.parent) (option_cmp nat_cmp h.number q.number) (option_cmp identifier_order h.guid q.guid) same less
   where
     same : hint_order (bare h) (bare q) ≡ Equal
     same =

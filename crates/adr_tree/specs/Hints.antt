@@ -10,11 +10,11 @@ use Rattle.adr_model.specs.Update.{same_identifier}
 use Rattle.adr_model.specs.Place.{Node, node_at}
 use Rattle.adr_tree.specs.declared.hints.Hint.{Hint}
 
--- hints by parent, then by name and by GUID
+-- hints by parent, then by the name's number and by GUID
 abbrev pub hint_order : Hint → Hint → Ordering
 hint_order a b =
     ordering_then (identifier_order a.parent b.parent)
-    (ordering_then (option_cmp nat_cmp a.name b.name) (option_cmp identifier_order a.guid b.guid))
+    (ordering_then (option_cmp nat_cmp a.number b.number) (option_cmp identifier_order a.guid b.guid))
 
 -- a number of a text: texts with different numbers differ
 abbrev pub number_of : List ℕ → ℕ
@@ -22,10 +22,10 @@ number_of text = fold (λ number byte. (number * 1099511628211 + byte) % 2 ^ 64)
 
 -- the hint of a child, and the hint of a name
 abbrev pub child_hint : Node → Hint
-child_hint n = record { parent = n.parent; name = None; guid = Some n.object.guid }
+child_hint n = record { parent = n.parent; number = None; guid = Some n.object.guid }
 
 abbrev pub name_hint : Node → Hint
-name_hint n = record { parent = n.parent; name = Some (number_of (folded n.text)); guid = Some n.object.guid }
+name_hint n = record { parent = n.parent; number = Some (number_of (folded n.text)); guid = Some n.object.guid }
 
 pub record IsHinted (hints : BTreeSet Hint) (n : Node) : Type 0 where
   pub child : contains hint_order hints (child_hint n) ≡ true
@@ -35,6 +35,6 @@ pub record IsHinted (hints : BTreeSet Hint) (n : Node) : Type 0 where
 abbrev pub AreHinted : List Node → BTreeSet Hint → Type 0
 AreHinted all hints = (n : Node) → node_at all n.object.guid ≡ Some n → IsHinted hints n
 
--- hints of one parent and one name, or none, are in one run
+-- hints of one parent and one number of a name, or none, are in one run
 abbrev pub is_in_run : Hint → Hint → Bool
-is_in_run start h = same_identifier start.parent h.parent && is_eq (option_cmp nat_cmp start.name h.name)
+is_in_run start h = same_identifier start.parent h.parent && is_eq (option_cmp nat_cmp start.number h.number)

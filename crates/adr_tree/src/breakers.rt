@@ -43,7 +43,7 @@ fn is_parent(slots: &BTreeMap<Guid, Option<Node>>, hints: &BTreeSet<Hint>, guid:
 {
     let start = Hint {
         parent: guid,
-        name: None,
+        number: None,
         guid: None,
     };
     for hint in hints.range((Bound::Included(start), Bound::Unbounded)) {

@@ -11,12 +11,12 @@ use adr_update::Node;
 use adr_values::{Guid, Text};
 use std::collections::BTreeSet;
 
-/// A hint that an object may have a parent, as it was written, or with `name` that it may have a name of this number
+/// A hint that an object may have a parent, as it was written, or with `number` that it may have a name of this number
 /// there. The one without a GUID comes before the others of its run.
 #[derive(Clone, Copy, PartialEq, Eq, PartialOrd, Ord)]
 pub struct Hint {
     pub parent: Guid,
-    pub name: Option<u64>,
+    pub number: Option<u64>,
     pub guid: Option<Guid>,
 }
 
@@ -27,7 +27,7 @@ impl Hint {
     {
         Hint {
             parent: node.parent(),
-            name: None,
+            number: None,
             guid: Some(node.object().guid),
         }
     }
@@ -38,7 +38,7 @@ impl Hint {
     {
         Hint {
             parent: node.parent(),
-            name: Some(number_of(node.name())),
+            number: Some(number_of(node.name())),
             guid: Some(node.object().guid),
         }
     }
@@ -61,7 +61,7 @@ impl Hint {
     pub(crate) fn begins_run_of(&self, hint: &Hint) -> bool
         ensures { result ≡ is_in_run self.now hint.now }
     {
-        self.parent.cmp(&hint.parent).is_eq() && self.name.cmp(&hint.name).is_eq()
+        self.parent.cmp(&hint.parent).is_eq() && self.number.cmp(&hint.number).is_eq()
     }
 }
 

@@ -105,7 +105,7 @@ impl Tree {
     {
         let start = Hint {
             parent,
-            name: Some(number_of(name)),
+            number: Some(number_of(name)),
             guid: None,
         };
         let mut bearers = Vec::new(alloc);

@@ -146,7 +146,7 @@ impl Tree {
     {
         let start = Hint {
             parent: guid,
-            name: None,
+            number: None,
             guid: None,
         };
         for hint in self.hints.range((Bound::Included(start), Bound::Unbounded)) {

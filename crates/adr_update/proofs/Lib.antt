@@ -1,3 +1,4 @@
+pub mod Found
 pub mod Referred
 pub mod Slots
 pub mod Starts

@@ -1,12 +1,10 @@
 //! Rows as a controller holds them.
 
-ghost use Rattle.std.specs.Prelude.{◌≡◌, IfOk};
+ghost use Rattle.std.specs.Prelude.{◌≡◌};
 ghost use Rattle.adr_update.specs.Key.{key_of};
 
-use crate::NoMemory;
 use crate::key::Key;
 use crate::update::Update;
-use std::alloc::Global;
 use std::marker::Model;
 
 /// An update that is held, with the update sequence number under which it was written here.
@@ -63,15 +61,5 @@ impl Held {
         ensures { key_of result ≡ self.now.update.key }
     {
         self.update.key()
-    }
-
-    /// An equal row.
-    pub fn copy(&self, alloc: Global) -> Result<Held, NoMemory>
-        ensures { IfOk result (λ copy. copy ≡ self.now) }
-    {
-        Ok(Held {
-            update: self.update.copy(alloc)?,
-            local: self.local,
-        })
     }
 }

@@ -1,6 +1,6 @@
 //! Keys of updates, and how they compare.
 
-ghost use Rattle.std.specs.Prelude.{◌≡◌};
+ghost use Rattle.std.specs.Prelude.{◌≡◌, ◌&&◌, is_none};
 ghost use Rattle.adr_model.specs.Update.{RowOf, deleted_attr, key_order, same_identifier, same_key, same_object, unit_of};
 ghost use Rattle.adr_model.specs.Live.{born};
 ghost use Rattle.adr_model.specs.Write.{is_link_row};
@@ -23,14 +23,21 @@ pub enum Key {
 impl Key {
     ghost use Rattle.adr_update.specs.Key.{key_of};
 
+    /// The key of the row of an attribute of an object.
+    pub fn row(object: &Oid, attr: u16) -> Key
+        ensures { key_of result ≡ RowOf object.now attr }
+    {
+        Key::Row {
+            object: *object,
+            attr,
+        }
+    }
+
     /// The key of the row that says that an object is dead.
     pub fn deleted(object: &Oid) -> Key
         ensures { key_of result ≡ RowOf object.now deleted_attr }
     {
-        Key::Row {
-            object: *object,
-            attr: DELETED,
-        }
+        Key::row(object, DELETED)
     }
 
     /// The order of keys: the rows of objects, object by object, before the links.
@@ -75,6 +82,13 @@ impl Key {
             Key::Row { object: own, .. } => is_same_object(own, object),
             Key::Link(_) => false,
         }
+    }
+
+    /// Whether it is a row of the object, and no death.
+    pub fn is_life_of(&self, object: &Oid) -> bool
+        ensures { result ≡ (is_row_of object.now (key_of self.now) && is_none (killed_by (key_of self.now))) }
+    {
+        self.is_row_of(object) && self.killed().is_none()
     }
 
     /// Whether it is a link from the object.

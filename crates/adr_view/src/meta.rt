@@ -2,7 +2,7 @@
 
 ghost use Rattle.std.specs.Prelude.{◌≡◌, ◌++◌, IfOk, OnOk, flat_map};
 ghost use Rattle.std.specs.Option.{option_copied};
-ghost use Rattle.adr_model.specs.Meta.{deleted_name, life_of, meta, object_line, text_said, text_written, told};
+ghost use Rattle.adr_model.specs.Meta.{life_of, meta, object_line, text_said, text_written, told};
 ghost use Rattle.adr_model.specs.Store.{updates_of};
 ghost use Rattle.adr_model.specs.Write.{nodes_held};
 ghost use Rattle.adr_update.specs.Referents.{referents};
@@ -11,24 +11,12 @@ ghost use Rattle.adr_view.specs.Youngest.{AreYoungest};
 
 use crate::NoMemory;
 use crate::names::{Names, youngest_names};
-use crate::shown::shown_name;
+use crate::shown::{mangled, shown_name};
 use adr_call::{Life, MetaLine, MetaLines};
 use adr_state::Rows;
 use adr_update::{CLASS, DELETED, Held, Key, NAME, Said, is_same_object};
 use adr_values::{Content, Guid, Oid, Text};
 use std::alloc::Global;
-
-/// The name of a tombstone: its text, a line feed, `DEL:` and the GUID in lower case (MS-ADTS, deleted objects; RFC 9562
-/// for the GUID).
-fn deleted_name(alloc: Global, text: &Text, guid: Guid) -> Result<Text, NoMemory>
-    ensures { IfOk result (λ name. name ≡ deleted_name text.now guid) }
-{
-    let mut buffer = [0; 36];
-    let mut name = String::from_str(alloc, text.as_str())?;
-    name.push_str("\nDEL:")?;
-    name.push_str(guid.hyphenated(&mut buffer))?;
-    Ok(Text::from_string(name))
-}
 
 /// The text that a name row says.
 fn text_said(alloc: Global, said: &Said) -> Result<Text, NoMemory>
@@ -54,7 +42,7 @@ fn text_written(alloc: Global, rows: &Rows, object: &Oid) -> Result<Text, NoMemo
     }
 }
 
-/// How an object is held, and its name.
+/// How an object is held, and its name. That of a tombstone is its text with `DEL:` and the GUID.
 fn life_of<'a>(
     alloc: Global,
     rows: &'a Rows,
@@ -66,7 +54,7 @@ fn life_of<'a>(
 {
     if rows.row(Key::deleted(object)).is_some() {
         let text = text_written(alloc, rows, object)?;
-        return Ok((Life::Dead, deleted_name(alloc, &text, object.guid)?));
+        return Ok((Life::Dead, mangled(alloc, &text, "DEL:", object.guid)?));
     }
     if let Some(node) = rows.node(object.guid) {
         if is_same_object(&node.object(), object) {

@@ -1,9 +1,10 @@
 //! Under which names live objects are shown. Of those in one place whose names fold alike the youngest
 //! name keeps its text (the form of the others is that of MS-ADTS).
 
-ghost use Rattle.std.specs.Prelude.{◌≡◌, ◌||◌, IfOk, List};
+ghost use Rattle.std.specs.Prelude.{◌≡◌, ◌||◌, ◌∷◌, ◌++◌, IfOk, List};
+ghost use Rattle.uuid.specs.Text.{hyphenated_text, lower};
 ghost use Rattle.adr_model.specs.Place.{Node as Live, place as place_in};
-ghost use Rattle.adr_model.specs.Shown.{conflict_name, gives_way, is_lost_name, shown_name};
+ghost use Rattle.adr_model.specs.Shown.{gives_way, is_lost_name, shown_name};
 ghost use Rattle.adr_view.specs.Youngest.{AreYoungest};
 
 use crate::NoMemory;
@@ -13,13 +14,15 @@ use adr_update::is_lost_name;
 use adr_values::{Guid, Text};
 use std::alloc::Global;
 
-/// The name of an object whose text another keeps.
-fn conflict_name(alloc: Global, text: &Text, guid: Guid) -> Result<Text, NoMemory>
-    ensures { IfOk result (λ name. name ≡ conflict_name text.now guid) }
+/// A text with a line feed, a mark and the GUID in lower case behind it (MS-ADTS, naming conflicts and deleted objects;
+/// RFC 9562 for the GUID).
+pub fn mangled(alloc: Global, text: &Text, mark: &str, guid: Guid) -> Result<Text, NoMemory>
+    ensures { IfOk result (λ name. name ≡ text.now ++ 10 ∷ mark.now ++ hyphenated_text lower guid) }
 {
     let mut buffer = [0; 36];
     let mut name = String::from_str(alloc, text.as_str())?;
-    name.push_str("\nCNF:")?;
+    name.push_str("\n")?;
+    name.push_str(mark)?;
     name.push_str(guid.hyphenated(&mut buffer))?;
     Ok(Text::from_string(name))
 }
@@ -44,7 +47,7 @@ pub fn shown_name<'a>(
         → name ≡ shown_name nodes node.now) }
 {
     if is_kept_by_another(names, place, node) {
-        conflict_name(alloc, node.text(), node.object().guid)
+        mangled(alloc, node.text(), "CNF:", node.object().guid)
     } else {
         Ok(node.text().copy(alloc)?)
     }

@@ -1,10 +1,18 @@
 -- Each command does what it should, and its faults have their causes.
-use Rattle.std.proofs.Common.{refl, arith}
+use Rattle.std.proofs.Common.{inl, inr, refl, arith}
+use Rattle.adr_node.specs.declared.ended.Refusal.TheVariants.{NotEmpty}
 use Rattle.adr_cmd.proofs.DiskLemmas.{look_causes, making_causes}
 use Rattle.adr_cmd.proofs.disk.perform.Goals as goal
 
 pub returns-in-Create-clause-does : goal.returns-in-Create-clause-does
-returns-in-Create-clause-does g c = rw c.in-Create.is ((c.create-how.result.0, c.made.ensures, c.create-how.ensures.makes), refl)
+returns-in-Create-clause-does g c = rw c.in-Create.is (record {
+  how = c.create-how.result.0;
+  status_is = c.made.ensures;
+  made = c.create-how.ensures.makes;
+  reads_so = refl;
+  undrawn = λ e. (c.create-how.ensures.alone NotEmpty e).1;
+  untouched = λ e. elim e [ inl e ↦ absurd (c.create-how.ensures.unread e) | inr e ↦ (c.create-how.ensures.fresh_fault e).1 ];
+})
 
 pub returns-in-Create-clause-causes : goal.returns-in-Create-clause-causes
 returns-in-Create-clause-causes g c =
@@ -12,7 +20,14 @@ returns-in-Create-clause-causes g c =
     (λ e. (c.create-how.ensures.fresh_fault e).0) c.create-how.ensures.fresh_later
 
 pub returns-in-Install-clause-does : goal.returns-in-Install-clause-does
-returns-in-Install-clause-does g c = rw c.in-Install.is (c.adopt-how.result.0, c.made-in-Install.ensures, c.adopt-how.ensures.makes)
+returns-in-Install-clause-does g c = rw c.in-Install.is (record {
+  how = c.adopt-how.result.0;
+  status_is = c.made-in-Install.ensures;
+  made = c.adopt-how.ensures.makes;
+  reads_so = (c.adopt-how.ensures.read, c.adopt-how.ensures.read_whole, λ e. (c.adopt-how.ensures.undrawn e).0);
+  undrawn = λ e. (c.adopt-how.ensures.undrawn e).1;
+  untouched = λ e. elim e [ inl e ↦ (c.adopt-how.ensures.read_fault e).1 | inr e ↦ (c.adopt-how.ensures.fresh_fault e).1 ];
+})
 
 pub returns-in-Install-clause-causes : goal.returns-in-Install-clause-causes
 returns-in-Install-clause-causes g c =
@@ -20,7 +35,14 @@ returns-in-Install-clause-causes g c =
     (λ e. (c.adopt-how.ensures.fresh_fault e).0) c.adopt-how.ensures.fresh_later
 
 pub returns-in-Restore-clause-does : goal.returns-in-Restore-clause-does
-returns-in-Restore-clause-does g c = rw c.in-Restore.is (c.adopt-how-in-Restore.result.0, c.made-in-Restore.ensures, c.adopt-how-in-Restore.ensures.makes)
+returns-in-Restore-clause-does g c = rw c.in-Restore.is (record {
+  how = c.adopt-how-in-Restore.result.0;
+  status_is = c.made-in-Restore.ensures;
+  made = c.adopt-how-in-Restore.ensures.makes;
+  reads_so = (c.adopt-how-in-Restore.ensures.read, c.adopt-how-in-Restore.ensures.read_whole, λ e. (c.adopt-how-in-Restore.ensures.undrawn e).0);
+  undrawn = λ e. (c.adopt-how-in-Restore.ensures.undrawn e).1;
+  untouched = λ e. elim e [ inl e ↦ (c.adopt-how-in-Restore.ensures.read_fault e).1 | inr e ↦ (c.adopt-how-in-Restore.ensures.fresh_fault e).1 ];
+})
 
 pub returns-in-Restore-clause-causes : goal.returns-in-Restore-clause-causes
 returns-in-Restore-clause-causes g c =

@@ -1,10 +1,13 @@
 use Rattle.std.proofs.Common.{◌≡◌, ap, Err, Result}
 use Rattle.adr_model.specs.Store.{State}
 use Rattle.adr_node.specs.Makes.{Adopts}
+use Rattle.adr_node.specs.Seen.{of_disk}
 use Rattle.adr_node.specs.declared.ended.Refusal.TheVariants.{NotEmpty}
 use Rattle.adr_node.specs.declared.making.Unmade.{Unmade}
 use Rattle.adr_node.specs.declared.making.Unmade.TheVariants as unmade
+use Rattle.adr_node.proofs.Formatted.{ends_at}
 use Rattle.adr_node.proofs.Made.{found_full, made_on, refused_so, unmade_on}
+use Rattle.adr_node.proofs.Reading.{none_read, unread_so, whole_as}
 use Rattle.adr_node.proofs.imaging.image_on.Goals as goal
 
 pub returns-in-Err-clause-made : goal.returns-in-Err-clause-made
@@ -36,3 +39,14 @@ pub returns-in-Err-adopt_read-clause-undrawn : goal.returns-in-Err-adopt_read-cl
 returns-in-Err-adopt_read-clause-undrawn g c = λ is.
     let same : c.in-Err-adopt_read.unmade ≡ unmade.Refused NotEmpty = cc is in
     absurd (c.in-Err-adopt_read.ensures.refused NotEmpty (ap (λ (e : Unmade). let r : Result State Unmade = Err e in r) same))
+
+pub returns-in-Err-clause-reads : goal.returns-in-Err-clause-reads
+returns-in-Err-clause-reads g c = unread_so (g.S.Source.left c.args.source.now) c.in-Err.unmade c.in-Err.ensures.refused
+
+pub returns-in-Err-clause-at_most : goal.returns-in-Err-clause-at_most
+returns-in-Err-clause-at_most g c = none_read (g.S.Source.left c.args.source.now)
+
+pub returns-in-Ok-adopt_read-clause-reads : goal.returns-in-Ok-adopt_read-clause-reads
+returns-in-Ok-adopt_read-clause-reads g c =
+    whole_as (g.S.Source.left c.args.source.now) (g.S.Source.left c.adopt_read.new.source) c.in-Ok-adopt_read.ensures.reads c.begin.result.0
+    (λ is. ends_at (of_disk g.D.Disk) c.in-Ok-adopt_read.state c.find_empty.new.disk c.begin.result.1 c.begin.result.0 (unmade.Refused NotEmpty) is c.begin.ensures.ends)

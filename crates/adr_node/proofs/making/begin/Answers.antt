@@ -6,7 +6,8 @@ use Rattle.adr_law_journal.specs.Areas.{start_of}
 use Rattle.adr_records.specs.Head.{area_at, front_at}
 use Rattle.adr_records.specs.Body.{following_in}
 use Rattle.adr_node.specs.Seen.{of_disk}
-use Rattle.adr_node.proofs.Formatted.{begins_behind, begins_short, ends_behind, ends_short, is_left, mapped_told, synced_leaves}
+use Rattle.adr_node.proofs.Formatted.{begins_behind, begins_short, ends_behind, ends_short, is_left, mapped_told, synced_as_before, synced_leaves}
+use Rattle.adr_node.proofs.Mirrored.{kept_as_before}
 use Rattle.adr_node.proofs.making.begin.Goals as goal
 
 pub format_disk-requires-clause-empty : goal.format_disk-requires-clause-empty
@@ -27,7 +28,7 @@ pub returns-in-Ok-clause-ends : goal.returns-in-Ok-clause-ends
 returns-in-Ok-clause-ends g c =
     let e = c.in-Ok.ensures in
     ends_behind (of_disk g.D.Disk) c.args.state c.args.disk c.sync.new.self c.format_disk.result.1 c.format_disk.result.0
-    (ap (option_map (start_of front_at area_at following_in)) e.same) e.cause.never_falls c.format_disk.ensures.ends
+    (synced_as_before g.D.Disk g.met.D.Disk.only_now c.args.disk c.sync.new.self e.same e.time e.crash) e.cause.never_falls c.format_disk.ensures.ends
 
 pub returns-in-Err-clause-begins : goal.returns-in-Err-clause-begins
 returns-in-Err-clause-begins g c =
@@ -41,4 +42,4 @@ pub returns-in-Err-clause-ends : goal.returns-in-Err-clause-ends
 returns-in-Err-clause-ends g c =
     let e = c.in-Err.ensures in
     ends_short Unit (of_disk g.D.Disk) c.args.state c.args.disk c.sync.new.self c.in-Err.fault c.by_fault.result c.by_fault.ensures.failed c.by_fault.ensures.no_memory
-    (λ is. e.cause.failed (ap Err is)) (λ is. ap (option_map (start_of front_at area_at following_in)) (e.no_memory (ap Err is)).content_stays)
+    (λ is. e.cause.failed (ap Err is)) (λ is. kept_as_before g.D.Disk g.met.D.Disk.only_now c.args.disk c.sync.new.self (e.no_memory (ap Err is)))

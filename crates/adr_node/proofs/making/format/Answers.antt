@@ -2,6 +2,7 @@ use Rattle.std.proofs.Common.{sym, subst, Ok}
 use Rattle.adr_node.specs.Formats.{Formats}
 use Rattle.adr_node.specs.Seen.{of_keeper}
 use Rattle.adr_node.proofs.Formatted.{formats_err, formats_ok}
+use Rattle.adr_node.proofs.Mirrored.{keeper_as_before, keeper_itself}
 use Rattle.adr_node.proofs.making.format.Goals as goal
 
 pub returns-in-Ok : goal.returns-in-Ok
@@ -14,5 +15,7 @@ pub returns-in-Err : goal.returns-in-Err
 returns-in-Err g c =
     let e = c.in-Err.ensures in
     let u = c.unformatted.ensures in
-    formats_err g.K.Keeper c.args.state c.args.keeper c.in-Err.keeper c.in-Err.refusal c.unformatted.result e.refused u.fault u.full u.no_memory e.full (λ is. (e.fault is).0)
-    (λ is. (e.no_memory is).content_stays) e.later e.told e.any_moment e.left
+    let only_now = g.met.K.Keeper.only_now in
+    formats_err g.K.Keeper c.args.state c.args.keeper c.in-Err.keeper c.in-Err.refusal c.unformatted.result e.refused u.fault u.full u.no_memory
+    (λ is. let full = e.full is in (keeper_itself g.K.Keeper only_now c.args.keeper c.in-Err.keeper full.0, full.1)) (λ is. (e.fault is).0)
+    (λ is. keeper_as_before g.K.Keeper only_now c.args.keeper c.in-Err.keeper (e.no_memory is)) e.later e.told e.any_moment e.left

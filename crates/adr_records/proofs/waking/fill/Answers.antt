@@ -1,4 +1,4 @@
-use Rattle.std.proofs.Common.{◌≡◌, List, Some, [], fold, ◌∙◌, ap, subst}
+use Rattle.std.proofs.Common.{List, Some, [], fold, ◌∙◌, ap, subst}
 use Rattle.std.proofs.lemmas.Result.{err_from_is_err_and}
 use Rattle.adr_model.specs.Change.{with_mark}
 use Rattle.adr_model.specs.Collect.{woken}

@@ -1,5 +1,4 @@
 use Rattle.adr_law_headline.proofs.Texts.{every_text}
-use Rattle.adr_answers.proofs.ReportLines.{directories_same}
 use Rattle.adr_run_replay.proofs.GivenLemmas.{texts_give_one}
 use Rattle.adr_run_replay.proofs.laws.runs_are_so.Goals as goal
 
@@ -13,7 +12,13 @@ pub returns-clause-generated : goal.returns-clause-generated
 returns-clause-generated c = c.generated_runs_are_so.ensures
 
 pub returns-clause-directories : goal.returns-clause-directories
-returns-clause-directories c = directories_same
+returns-clause-directories c = c.equal_lines_mean_equal_directories.ensures.alone
+
+pub returns-clause-entries : goal.returns-clause-entries
+returns-clause-entries c = c.equal_lines_mean_equal_directories.ensures.below
+
+pub returns-clause-followed : goal.returns-clause-followed
+returns-clause-followed c = c.equal_lines_mean_equal_directories.ensures.followed
 
 pub returns-clause-json : goal.returns-clause-json
 returns-clause-json c = c.equal_json_means_equal_directories.ensures

@@ -31,7 +31,7 @@ module _ (g : _) (c : After-write_log g) where
       let form = g.F.Form in
       let law = g.met.F.Form in
       let s = c.args.state.now in
-      new_rests form.head form.area form.following (form.front_of (ids_of s)) (form.area_of s) s (law.tells_front s (law.begins_formed s c.requires.begins)) (law.tells_area first_area s c.requires.begins c.in-Ok.ensures.short) (law.area_length s c.requires.begins) c.deref.result.now (c.deref.ensures.value ∙ c.in-Ok.ensures.bytes)
+      new_rests form.head form.area form.following (form.front_of (ids_of s)) (form.area_of s) s (law.tells_front s (law.begins_formed s c.requires.begins)) (law.tells_area first_area s c.requires.begins c.in_ok-written.ensures.short) (law.area_length s c.requires.begins) c.deref.result.now (c.deref.ensures.value ∙ c.in_ok-written.ensures.bytes)
 
   new_or_none : IfSome (g.D.Disk.content c.reserve.new.self) (λ _. Among (λ bytes. IsNewOrNone c.args.state.now (start_of g.F.Form.head g.F.Form.area g.F.Form.following bytes)) (g.D.Disk.may_leave c.write_log.new.disk))
   new_or_none = c.write_log.ensures.left layout c.args.state.now (new_log c.args.state.now) rests
@@ -64,8 +64,8 @@ returns-in-Ok-write_log-clause-ok g c = λ up.
     let s = c.args.state.now in
     let x = (goal.at.returns-in-Ok-write_log-clause-ok g c).After-write_log in
     let settled = c.in-Ok-write_log.ensures.settled (layout g x) s (new_log s) (rests g x) in
-    let at = new_at form.head form.area form.following (form.front_of (ids_of s)) (form.area_of s) s (law.tells_front s (law.begins_formed s c.requires.begins)) d.content d.may_leave c.write_log.new.disk c.in-Ok.ensures.short settled in
-    subst (λ (l : Log). IsAtOn d form c.write_log.new.disk l (found s (new_log s))) (sym c.in-Ok.ensures.log) at
+    let at = new_at form.head form.area form.following (form.front_of (ids_of s)) (form.area_of s) s (law.tells_front s (law.begins_formed s c.requires.begins)) d.content d.may_leave c.write_log.new.disk c.in_ok-written.ensures.short settled in
+    subst (λ (l : Log). IsAtOn d form c.write_log.new.disk l (found s (new_log s))) (sym c.in_ok-written.ensures.log) at
 
 pub returns-in-Ok-write_log-clause-within : goal.returns-in-Ok-write_log-clause-within
 returns-in-Ok-write_log-clause-within g c =
@@ -74,21 +74,21 @@ returns-in-Ok-write_log-clause-within g c =
     let mid = c.reserve.new.self in
     format_within form.head form.area form.following d.content d.may_leave mid c.write_log.new.disk c.write_log.ensures.told c.args.state.now
     (if_told (d.content mid) _ (λ there told. ap length (c.requires.empty.empty there (sym c.reserve.ensures.keeps.content_stays ∙ told))))
-    (subst (λ (n : ℕ). AreNoLonger (d.content mid) (d.may_leave c.write_log.new.disk) n) (ap (λ (l : List ℕ). length l + 1) c.deref.ensures.value ∙ c.in-Ok.ensures.long) c.write_log.ensures.no_longer)
+    (subst (λ (n : ℕ). AreNoLonger (d.content mid) (d.may_leave c.write_log.new.disk) n) (ap (λ (l : List ℕ). length l + 1) c.deref.ensures.value ∙ c.in_ok-written.ensures.long) c.write_log.ensures.no_longer)
     (new_or_none g (goal.at.returns-in-Ok-write_log-clause-within g c).After-write_log)
 
 pub returns-clause-formats : goal.returns-clause-formats
 returns-clause-formats g c =
     let d = g.D.Disk in
     let mid = c.reserve.new.self in
-    let spare = c.in-Ok-reserve.ensures.reserved in
+    let spare = c.in-Ok.ensures.reserved in
     inr (
       mid,
-      c.in-Ok-reserve.ensures.gives,
+      c.in-Ok.ensures.gives,
       (
         c.deref.result.now,
-        no_memory_left (λ e. Formats d.gives c.deref.result.now mid (Some e) c.write_log.new.disk) c.in-Err-write_log.field-0 (d.spare_calls mid) (d.spare_bytes mid) 6 (length c.deref.result.now + 2)
-            c.in-Err-write_log.ensures.no_memory_only spare.0 (omega (arith, spare.1, c.len.ensures, c.deref.ensures.len)) c.in-Err-write_log.ensures.gives,
+        no_memory_left (λ e. Formats d.gives c.deref.result.now mid (Some e) c.write_log.new.disk) c.in-Err.field-0 (d.spare_calls mid) (d.spare_bytes mid) 6 (length c.deref.result.now + 2)
+            c.in-Err.ensures.no_memory_only spare.0 (omega (arith, spare.1, c.len.ensures, c.deref.ensures.len)) c.in-Err.ensures.gives,
       ),
     )
 
@@ -118,17 +118,17 @@ returns-in-Err-NoMemory-clause-again g c = λ refused. still_empty g.D.Disk c.re
 
 -- ---- where no log is spelled
 
-pub returns-in-Err-clause-any_moment : goal.returns-in-Err-clause-any_moment
-returns-in-Err-clause-any_moment g c =
+pub returns-in_err-written-clause-any_moment : goal.returns-in_err-written-clause-any_moment
+returns-in_err-written-clause-any_moment g c =
     let j = c.args.self.now in
     none_moments g.D.Disk g.F.Form (λ j. j.disk) j j g.met.D.Disk.only_now (same_disk g.D.Disk j.disk) c.args.state.now c.requires.empty
 
-pub returns-in-Err-clause-left : goal.returns-in-Err-clause-left
-returns-in-Err-clause-left g c =
+pub returns-in_err-written-clause-left : goal.returns-in_err-written-clause-left
+returns-in_err-written-clause-left g c =
     let disk = c.args.self.now.disk in
     none_left g.D.Disk g.F.Form disk disk (same_disk g.D.Disk disk) c.args.state.now c.requires.empty
 
-pub returns-in-Err-clause-no_memory : goal.returns-in-Err-clause-no_memory
-returns-in-Err-clause-no_memory g c = λ refused.
+pub returns-in_err-written-clause-no_memory : goal.returns-in_err-written-clause-no_memory
+returns-in_err-written-clause-no_memory g c = λ refused.
     let j = c.args.self.now in
     found_keeps g.D.Disk g.F.Form (λ j. j.disk) j j (same_disk g.D.Disk j.disk)

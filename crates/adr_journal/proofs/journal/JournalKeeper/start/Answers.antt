@@ -1,4 +1,5 @@
 use Rattle.std.proofs.Common.{◌≡◌, ℕ, ◌+◌, ◌≤◌, ◌<◌, List, length, Some, Err, refl, sym, ◌∙◌, ap, subst, arith}
+use Rattle.std.proofs.lemmas.Result.{err_from_is_err_and}
 use Rattle.adr_model.specs.Lengths.{Log}
 use Rattle.adr_law_journal.specs.Areas.{found, start_of}
 use Rattle.adr_law_journal.specs.Kept.{Rests}
@@ -32,15 +33,6 @@ returns-in-Err-NoMemory-clause-left g c = λ t left. (left.0, c.read_synced.ensu
 pub returns-in-Err-NoMemory-clause-within : goal.returns-in-Err-NoMemory-clause-within
 returns-in-Err-NoMemory-clause-within g c = still_within g.D.Disk g.F.Form c.args.self.now.disk c.read_synced.new.disk c.read_synced.ensures.told c.read_synced.ensures.left
 
-pub returns-in-Ok-replay-clause-any_moment : goal.returns-in-Ok-replay-clause-any_moment
-returns-in-Ok-replay-clause-any_moment g c = left_before g.D.Disk g.F.Form (λ j. j.disk) c.args.self.now _ c.read_synced.ensures.any_moment
-
-pub returns-in-Ok-replay-clause-left : goal.returns-in-Ok-replay-clause-left
-returns-in-Ok-replay-clause-left g c = λ t left. (left.0, c.read_synced.ensures.left left.0 left.1, left.2)
-
-pub returns-in-Ok-replay-clause-within : goal.returns-in-Ok-replay-clause-within
-returns-in-Ok-replay-clause-within g c = still_within g.D.Disk g.F.Form c.args.self.now.disk c.read_synced.new.disk c.read_synced.ensures.told c.read_synced.ensures.left
-
 pub returns-clause-any_moment : goal.returns-clause-any_moment
 returns-clause-any_moment g c = left_before g.D.Disk g.F.Form (λ j. j.disk) c.args.self.now _ c.read_synced.ensures.any_moment
 
@@ -49,6 +41,15 @@ returns-clause-left g c = λ t left. (left.0, c.read_synced.ensures.left left.0 
 
 pub returns-clause-within : goal.returns-clause-within
 returns-clause-within g c = still_within g.D.Disk g.F.Form c.args.self.now.disk c.read_synced.new.disk c.read_synced.ensures.told c.read_synced.ensures.left
+
+pub returns-in_err-state-clause-any_moment : goal.returns-in_err-state-clause-any_moment
+returns-in_err-state-clause-any_moment g c = left_before g.D.Disk g.F.Form (λ j. j.disk) c.args.self.now _ c.read_synced.ensures.any_moment
+
+pub returns-in_err-state-clause-left : goal.returns-in_err-state-clause-left
+returns-in_err-state-clause-left g c = λ t left. (left.0, c.read_synced.ensures.left left.0 left.1, left.2)
+
+pub returns-in_err-state-clause-within : goal.returns-in_err-state-clause-within
+returns-in_err-state-clause-within g c = still_within g.D.Disk g.F.Form c.args.self.now.disk c.read_synced.new.disk c.read_synced.ensures.told c.read_synced.ensures.left
 
 -- ---- where it is refused
 
@@ -60,27 +61,29 @@ returns-in-Err-NoMemory-clause-still g c =
     still_found d g.F.Form (λ j. j.disk) old (record old { disk = new }) (NoMemory c.in-Err-NoMemory.settled)
     (subst (λ e. StillReads d.content d.may_leave d.moment d.left_since e old.disk new) c.in-Err-NoMemory.field-0-is c.in-Err-NoMemory.ensures.still)
 
-pub returns-clause-still : goal.returns-clause-still
-returns-clause-still g c =
+pub returns-in_err-state-clause-still : goal.returns-in_err-state-clause-still
+returns-in_err-state-clause-still g c =
     let d = g.D.Disk in
     let old = c.args.self.now in
     let new = c.read_synced.new.disk in
-    still_found d g.F.Form (λ j. j.disk) old (record old { disk = new }) c.in-Err.refusal
-    (read_still d.content d.may_leave d.moment d.left_since old.disk new c.in-Err.refusal (λ is. c.in-Err.ensures.settled (ap Err is)) (c.in-Ok.ensures.same, c.in-Ok.ensures.synced))
+    let refusal = c.in_err-state.field-0.0 in
+    let p = err_from_is_err_and c.from_residual.result c.from_residual.ensures.1 in
+    rw (p.1, p.2) (still_found d g.F.Form (λ j. j.disk) old (record old { disk = new }) refusal
+    (read_still d.content d.may_leave d.moment d.left_since old.disk new refusal (λ is. c.in_err-state.ensures.settled (ap Err is)) (c.in-Ok.ensures.same, c.in-Ok.ensures.synced)))
 
 -- ---- where it is found
 
-pub returns-in-Ok-replay-clause-ok : goal.returns-in-Ok-replay-clause-ok
-returns-in-Ok-replay-clause-ok g c =
+pub returns-clause-ok : goal.returns-clause-ok
+returns-clause-ok g c =
     let d = g.D.Disk in
     let f = g.F.Form in
-    let s = c.in-Ok-replay.state in
-    let log = c.in-Ok-replay.log in
+    let s = c.in_ok-state.state in
+    let log = c.in_ok-state.log in
     let old = c.args.self.now.disk in
     let new = c.read_synced.new.disk in
     let same : d.content new ≡ d.content old = c.in-Ok.ensures.same in
-    let is = c.in-Ok-replay.ensures.rests in
-    let within = c.in-Ok-replay.ensures.within in
+    let is = c.in_ok-state.ensures.rests in
+    let within = c.in_ok-state.ensures.within in
     let l = layout_of f.head f.area f.following is.front (ids_of s) is.is_head in
     let rests : (there : List ℕ) → d.content old ≡ Some there → Rests l s log there = λ there told.
     subst (λ (y : List ℕ). Rests l s log y) (c.deref.ensures.value ∙ at_told (d.content old) _ there told c.in-Ok.ensures.bytes) is.rests in
@@ -88,7 +91,7 @@ returns-in-Ok-replay-clause-ok g c =
       log,
       (λ up. record {
         is_log = refl;
-        version = c.in-Ok-replay.ensures.version;
+        version = c.in_ok-state.ensures.version;
         front = is.front;
         is_head = is.is_head;
         settled = record {
@@ -103,15 +106,15 @@ returns-in-Ok-replay-clause-ok g c =
       if_mapped (start_of f.head f.area f.following) (d.content old) _ (λ there told. stands l s log there (rests there told)),
     )
 
-pub returns-in-Ok-replay-clause-within_found : goal.returns-in-Ok-replay-clause-within_found
-returns-in-Ok-replay-clause-within_found g c = λ log is_at.
+pub returns-clause-within_found : goal.returns-clause-within_found
+returns-clause-within_found g c = λ log is_at.
     let d = g.D.Disk in
     let f = g.F.Form in
     let at = is_at refl in
-    let within = c.in-Ok-replay.ensures.within in
+    let within = c.in_ok-state.ensures.within in
     let same : d.content c.read_synced.new.disk ≡ d.content c.args.self.now.disk = c.in-Ok.ensures.same in
-    found_within f.head f.area f.following d.content d.may_leave c.read_synced.new.disk c.in-Ok-replay.log (found c.in-Ok-replay.state log) at
-    (subst (λ (l : Log). l.place + 6 ≤ l.first) (sym at.is_log) c.in-Ok-replay.ensures.apart)
+    found_within f.head f.area f.following d.content d.may_leave c.read_synced.new.disk c.in_ok-state.log (found c.in_ok-state.state log) at
+    (subst (λ (l : Log). l.place + 6 ≤ l.first) (sym at.is_log) c.in_ok-state.ensures.apart)
     (subst (λ (l : Log). l.first < l.log_end) (sym at.is_log) within.0)
     (if_told (d.content c.read_synced.new.disk) _ (λ there told.
     let read = at_told (d.content c.args.self.now.disk) _ there (sym same ∙ told) c.in-Ok.ensures.bytes in

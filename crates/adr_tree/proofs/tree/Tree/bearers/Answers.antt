@@ -17,8 +17,8 @@ loop-hint-init c =
     let empty = ap referents c.new-bearers.ensures.items in (
       tt,
       tt,
-      begins (record { parent = c.args.parent; name = Some c.number_of.result; guid = None }) c.args.self.now.hints.keys c.into_iter-hint-iterator.result left c.range-hint-items.ensures.ordered,
-      all_left (nodes_in c.args.self.now) (record { parent = c.args.parent; name = Some c.number_of.result; guid = None }) refl name_hint (λ m. refl) (is_called (nodes_in c.args.self.now) c.args.parent c.args.name.now)
+      begins (record { parent = c.args.parent; number = Some c.number_of.result; guid = None }) c.args.self.now.hints.keys c.into_iter-hint-iterator.result left c.range-hint-items.ensures.ordered,
+      all_left (nodes_in c.args.self.now) (record { parent = c.args.parent; number = Some c.number_of.result; guid = None }) refl name_hint (λ m. refl) (is_called (nodes_in c.args.self.now) c.args.parent c.args.name.now)
           (name_run (nodes_in c.args.self.now) c.args.parent c.requires.parent c.args.name.now c.number_of.result c.number_of.ensures) (λ m. Member m (referents c.new-bearers.result.items))
           c.args.self.now.hints.keys c.into_iter-hint-iterator.result left (λ m here. (c.requires.tree.hinted m here).name),
       subst (Each (λ n. node_at (nodes_in c.args.self.now) n.object.guid ≡ Some n)) (sym empty) (λ n m. absurd m),
@@ -31,8 +31,8 @@ loop-hint-preserved-in-Continue-1 c =
     let grown = pushed c.loop-hint.bearers.items c.push.new.self.items c.in-Some-called.node c.in_ok-push.ensures.items in (
       tt,
       tt,
-      onward (record { parent = c.args.parent; name = Some c.number_of.result; guid = None }) c.in-Some.hint.now c.next.new.self c.loop-hint.hint-iterator left c.loop-hint.invariant.2,
-      passed (nodes_in c.args.self.now) (record { parent = c.args.parent; name = Some c.number_of.result; guid = None }) refl name_hint (λ m. refl) (is_called (nodes_in c.args.self.now) c.args.parent c.args.name.now)
+      onward (record { parent = c.args.parent; number = Some c.number_of.result; guid = None }) c.in-Some.hint.now c.next.new.self c.loop-hint.hint-iterator left c.loop-hint.invariant.2,
+      passed (nodes_in c.args.self.now) (record { parent = c.args.parent; number = Some c.number_of.result; guid = None }) refl name_hint (λ m. refl) (is_called (nodes_in c.args.self.now) c.args.parent c.args.name.now)
           (name_run (nodes_in c.args.self.now) c.args.parent c.requires.parent c.args.name.now c.number_of.result c.number_of.ensures)
           (λ m. Member m (referents c.loop-hint.bearers.items)) (λ m. Member m (referents c.push.new.self.items))
           c.in-Some.hint.now c.next.new.self c.loop-hint.hint-iterator left
@@ -50,8 +50,8 @@ loop-hint-preserved c =
     let left = rest_more deref c.loop-hint.hint-iterator c.next.new.self c.next.result c.in-Some.hint c.in-Some.is c.next.ensures.steps in (
       tt,
       tt,
-      onward (record { parent = c.args.parent; name = Some c.number_of.result; guid = None }) c.in-Some.hint.now c.next.new.self c.loop-hint.hint-iterator left c.loop-hint.invariant.2,
-      passed (nodes_in c.args.self.now) (record { parent = c.args.parent; name = Some c.number_of.result; guid = None }) refl name_hint (λ m. refl) (is_called (nodes_in c.args.self.now) c.args.parent c.args.name.now)
+      onward (record { parent = c.args.parent; number = Some c.number_of.result; guid = None }) c.in-Some.hint.now c.next.new.self c.loop-hint.hint-iterator left c.loop-hint.invariant.2,
+      passed (nodes_in c.args.self.now) (record { parent = c.args.parent; number = Some c.number_of.result; guid = None }) refl name_hint (λ m. refl) (is_called (nodes_in c.args.self.now) c.args.parent c.args.name.now)
           (name_run (nodes_in c.args.self.now) c.args.parent c.requires.parent c.args.name.now c.number_of.result c.number_of.ensures)
           (λ m. Member m (referents c.loop-hint.bearers.items)) (λ m. Member m (referents c.loop-hint.bearers.items))
           c.in-Some.hint.now c.next.new.self c.loop-hint.hint-iterator left (λ m d. d)
@@ -63,6 +63,6 @@ loop-hint-preserved c =
 pub returns-then-not-begins_run_of-clause-all : goal.returns-then-not-begins_run_of-clause-all
 returns-then-not-begins_run_of-clause-all c =
     let left = rest_more deref c.loop-hint.hint-iterator c.next.new.self c.next.result c.in-Some.hint c.in-Some.is c.next.ensures.steps in
-    at_stop (nodes_in c.args.self.now) (record { parent = c.args.parent; name = Some c.number_of.result; guid = None }) refl name_hint (λ m. refl) (is_called (nodes_in c.args.self.now) c.args.parent c.args.name.now)
+    at_stop (nodes_in c.args.self.now) (record { parent = c.args.parent; number = Some c.number_of.result; guid = None }) refl name_hint (λ m. refl) (is_called (nodes_in c.args.self.now) c.args.parent c.args.name.now)
     (name_run (nodes_in c.args.self.now) c.args.parent c.requires.parent c.args.name.now c.number_of.result c.number_of.ensures) (λ m. Member m (referents c.loop-hint.bearers.items))
     c.in-Some.hint.now c.next.new.self c.loop-hint.hint-iterator left c.loop-hint.invariant.2 (sym c.begins_run_of.ensures ∙ c.if-not-begins_run_of.true) c.loop-hint.invariant.3

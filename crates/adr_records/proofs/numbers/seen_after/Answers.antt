@@ -2,8 +2,8 @@ use Rattle.std.proofs.Common.{◌≡◌, Bool, true, false, max, sym, ap, ap₂,
 use Rattle.adr_values.specs.Vector.{Cursors, at, joined}
 use Rattle.adr_model.specs.Update.{same_identifier}
 use Rattle.adr_records.proofs.Seen.{raised_at}
-use Rattle.adr_records.proofs.vectors.seen_after.Goals as goal
-use Rattle.adr_records.proofs.vectors.seen_after.Goals.{After-is_same}
+use Rattle.adr_records.proofs.numbers.seen_after.Goals as goal
+use Rattle.adr_records.proofs.numbers.seen_after.Goals.{After-is_same}
 
 module _ (c : After-is_same) where
   abbrev both : Cursors
