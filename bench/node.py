@@ -6,8 +6,8 @@ Usage: bench/node.py [--program PATH] [--killed PATH] [--rounds N] [--seed N] [-
 
 What is tried over files: a walk with each command and each refusal; a controller with objects (of `adr_test_killed`), whose
 JSON and whose lines have to tell the same, and whose image makes two more controllers that show the same; `create` and
-`install` killed at random moments, behind which a start has to find no log (`damaged 0`) or the whole controller; a file that
-another process holds; a file system that is full; standard output that takes nothing.
+`install` killed at random moments, behind which a start has to find no log (`damaged 0`) or the whole controller; names of
+links, pipes and directories; a file that another process holds; a file system that is full; standard output that takes nothing.
 
 What is tried over TCP: a walk of two nodes with `serve`, `send` and `pull`; random lines and requests, each answer compared with
 the second reading of the rules; requests and replies with a byte changed, a part missing or too much, compared with the second
@@ -246,8 +246,21 @@ def walk(node):
         file.write(b"abc")
     for words in (["show", "Oslo"], ["export", "Oslo"], ["backup", "Oslo"]):
         node.expect(words, 10, b"damaged 0\n")
-    for words in ([], ["show"], ["show", "a/b"], ["show", "9x"], ["show", "-x"], ["restore", "X", "b0"], ["--help"], ["create", "x" * 33]):
+    for words in ([], ["show"], ["show", "a/b"], ["show", "9x"], ["show", "-x"], ["restore", "X", "b0"], ["--help"], ["create", "x" * 33],
+                  [b"\xff"], ["show", b"\xff"]):
         node.expect(words or [""], 2, USAGE)
+
+
+def no_files(node):
+    """Names of what is no regular file of the folder: nothing is read, written or made."""
+    before = open(node.path("London"), "rb").read()
+    os.mkdir(node.path("Folder"))
+    os.mkfifo(node.path("Pipe"))
+    os.symlink("London.adr", node.path("Link"))
+    os.symlink("Nowhere.adr", node.path("Astray"))
+    for name, command in itertools.product(("Folder", "Pipe", "Link", "Astray"), ("create", "show", "backup")):
+        node.expect([command, name], 6, b"")
+    check("what a link leads to stays", open(node.path("London"), "rb").read() == before and not os.path.exists(node.path("Nowhere")))
 
 
 def entries_of_lines(lines):
@@ -1460,6 +1473,7 @@ def over_files(told):
     with tempfile.TemporaryDirectory() as folder:
         node = Node(told.program, folder)
         walk(node)
+        no_files(node)
         if os.path.exists(told.killed):
             image = with_objects(node, told.killed)
         else:

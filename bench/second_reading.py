@@ -347,10 +347,14 @@ def take_usn(state, count=1):
     state.usn += count
 
 
-def full(state):
-    sizes = {'Objects': len(state.objects), 'Links': len(state.links), 'Cursors': len(state.vector()), 'Marks': len(state.marks)}
+def sizes(state):
+    return {'Objects': len(state.objects), 'Links': len(state.links), 'Cursors': len(state.vector()), 'Marks': len(state.marks)}
+
+
+def full(*ways):
+    """Refuses what is beyond the limit of a table anywhere on the way, in the order of the tables."""
     for table in ('Objects', 'Links', 'Cursors', 'Marks'):
-        if sizes[table] > LIMIT[table]:
+        if any(way[table] > LIMIT[table] for way in ways):
             raise Refusal(22, 'Full', ('table', table), ('limit', LIMIT[table]))
 
 
@@ -385,7 +389,7 @@ def write_add(old, now, guid, class_number, parent, text, values):
     take_usn(state)
     stamp = Stamp(1, now, state.inv, state.usn)
     state.objects[Oid(guid, state.inv, state.usn)] = {attr: Row(stamp, state.usn, rows[attr]) for attr in rows}
-    full(state)
+    full(sizes(state))
     return state
 
 
@@ -466,7 +470,7 @@ def write_link(old, now, start, attr, end, present):
     created = held.stamp[0] if held is not None else now
     state.links[key] = LinkRow((created, stamp), present, state.usn + 1)
     take_usn(state)
-    full(state)
+    full(sizes(state))
     return state
 
 
@@ -626,7 +630,8 @@ def take(old, reply):
         raise Refusal(31, 'SchemaMismatch', ('mine', 1), ('theirs', reply.schema))
     if reply.last is not None and reply.last.get(old.inv, 0) > old.usn:
         raise Refusal(33, 'RolledBack', ('inv', show_id(old.inv)), ('mine', old.usn), ('shown', reply.last[old.inv]))
-    state, wrote, fault = old.copy(), 0, None
+    state, wrote = old.copy(), 0
+    most = sizes(state)
     for place, item in enumerate(reply.items):
         if item[0] == 'object':
             did = take_object(state, vector, place, item[1], item[2])
@@ -635,11 +640,7 @@ def take(old, reply):
         if did:
             wrote += 1
             state.usn += 1
-        if fault is None:
-            try:
-                full(state)
-            except Refusal as refusal:
-                fault = refusal
+        most = {table: max(size, most[table]) for table, size in sizes(state).items()}
     if state.usn > USN_MAX:
         raise Refusal(21, 'UsnLimit')
     state.marks[reply.source] = (reply.inv, reply.to)
@@ -647,9 +648,7 @@ def take(old, reply):
     if reply.last is not None:
         join(state.others, reply.last)
         state.body += 24 * len(reply.last)
-    if fault is not None:
-        raise fault
-    full(state)
+    full(most, sizes(state))
     return state, wrote
 
 
@@ -1101,8 +1100,9 @@ def read_text(token):
     return text
 
 
-def read_number(token, most):
-    if int(token) > most:
+def read_number(token, most, least=0):
+    """No number in range has more than 20 digits with its sign, and `int` reads no more than 4,300."""
+    if len(token) > 20 or not least <= int(token) <= most:
         raise Outside
     return int(token)
 
@@ -1124,9 +1124,9 @@ def read_value(token):
         return ('oct', token[1:])
     if token in ('true', 'false'):
         return ('flag', token == 'true')
-    if token == '-0' or not -2**63 <= int(token) < 2**63:
+    if token == '-0':
         raise Outside
-    return ('num', int(token))
+    return ('num', read_number(token, 2**63 - 1, -2**63))
 
 
 def read_token(word, token):
@@ -1135,13 +1135,9 @@ def read_token(word, token):
     if word == 'NUM':
         return read_number(token, 2**64 - 1)
     if word == 'MAX':
-        if int(token) < 1:
-            raise Outside
-        return read_number(token, 10000)
+        return read_number(token, 10000, 1)
     if word == 'ROUNDS':
-        if int(token) < 1:
-            raise Outside
-        return read_number(token, 126)
+        return read_number(token, 126, 1)
     if word == 'CALLS':
         return read_number(token, 1000)
     if word == 'TEXT':

@@ -23,7 +23,7 @@ use Rattle.adr_node.proofs.Mirrored.{kept_leaves}
 use Rattle.adr_node.proofs.Formatted.{always}
 use Rattle.adr_words.specs.declared.kinds.DiskCommand.{DiskCommand}
 use Rattle.adr_words.specs.declared.kinds.DiskCommand.TheVariants.{Create, Install, Restore, Backup, Show, Export}
-use Rattle.adr_cmd.specs.OnDisk.{AdoptedSo, AtHand, DoesSo, HasCauses, LooksSo, MakesSo, NewSo, ReadsImage, status_of_look, status_of_making}
+use Rattle.adr_cmd.specs.OnDisk.{AdoptedSo, AtHand, DoesSo, HasCauses, LooksSo, MakesSo, NewSo, ReadsImage, Untaken, status_of_look, status_of_making}
 
 -- ---- commands that only look: which ending has a status
 
@@ -87,8 +87,8 @@ module _ {K : Type 0} (k : SinkGhosts K) (verb name : List ℕ) where
   told_unwritten None before after how t e = t.0
   told_unwritten (Some v) before after how t e = absurd (t.3 (inl e))
 
-pub making_causes : {S K D F : Type 0} {s : SourceGhosts S} {k : SinkGhosts K} {d : DiskGhosts D} {f : FreshGhosts F} {comes : Verdict → Type 0} {verb name : List ℕ} {unread left : S}
-    {old new : D} {before after : K} {first last : F} {r : ℕ} {how : Creation} → r ≡ status_of_making how → Makes d k comes verb name old new before after how
+pub making_causes : {S K D F : Type 0} {s : SourceGhosts S} {k : SinkGhosts K} {d : DiskGhosts D} {f : FreshGhosts F} {comes : Verdict → Type 0} {untaken : Type 0} {verb name : List ℕ} {unread left : S}
+    {old new : D} {before after : K} {first last : F} {r : ℕ} {how : Creation} → r ≡ status_of_making how → Makes d k comes untaken verb name old new before after how
     → (how ≡ makes.ReadFault → s.faults unread < s.faults left) → s.faults unread ≤ s.faults left → k.faults before ≤ k.faults after
     → (how ≡ makes.FreshFault → f.faults first < f.faults last) → f.faults first ≤ f.faults last
     → HasCauses s k d f (record { source = unread; sink = before; disk = old; fresh = first }) (record { source = left; sink = after; disk = new; fresh = last }) r
@@ -118,7 +118,7 @@ module _ {D : Type 0} (d : DiskGhosts D) (only_now : OnlyNow d) where
   -- and no controller was begun with
   pub none_begun : {K : Type 0} (k : SinkGhosts K) (disk : D) (sink : K) → IsUnbegun (of_disk d) k disk disk sink sink unbegun.NoMemory
   none_begun k disk sink =
-      wanting (of_disk d) k disk disk sink sink unbegun.NoMemory (inr (refl, refl)) (omega arith) (λ is. is) (unchanged disk) (λ x left. left) refl
+      wanting (of_disk d) k disk disk sink sink unbegun.NoMemory (inr (refl, (refl, refl))) (omega arith) (λ is. is) (unchanged disk) (λ x left. left) refl
 
 -- nothing was read
 pub none_read : (most : ℕ) (left : Option (List ℕ)) → IfSome left (λ text. (n : ℕ) × (n ≤ most) × (left ≡ Some (drop n text)))
@@ -130,19 +130,20 @@ module _ {S K D F : Type 0} (s : SourceGhosts S) (k : SinkGhosts K) (d : DiskGho
   nothing_looked refuses bytes at =
       (looks.NoMemory, refl, unbegun_looks (of_disk d) k refuses bytes at.disk at.disk at.sink at.sink unbegun.NoMemory (none_begun d only_now k at.disk at.sink), refl, refl)
 
-  nothing_made : (comes : Verdict → Type 0) (reads : Creation → Type 0) (verb name : List ℕ) (at : AtHand S K D F) → reads makes.NoMemory
-      → MakesSo k d comes reads verb name at at 8
-  nothing_made comes reads verb name at none = record {
+  nothing_made : (comes : Verdict → Type 0) (untaken : Type 0) (reads : Creation → Type 0) (verb name : List ℕ) (at : AtHand S K D F) → untaken → reads makes.NoMemory
+      → MakesSo k d comes untaken reads verb name at at 8
+  nothing_made comes untaken reads verb name at nothing none = record {
     how = makes.NoMemory;
     status_is = refl;
     made =
         record {
           verdict = None;
           is_so = tt;
+          sees_first = inr nothing;
           tells = (refl, λ written. written, λ e. absurd (cc e));
           leaves = tt;
           disk_fault = λ e. absurd (cc e);
-          stays = λ none passed. record { told = refl; any_moment = unchanged d only_now at.disk; left = λ f left. left };
+          stays = λ none passed. record { stays = (refl, refl); any_moment = unchanged d only_now at.disk; left = λ f left. left };
           begun = None;
           comes_so = tt;
           on_empty = tt;
@@ -153,19 +154,18 @@ module _ {S K D F : Type 0} (s : SourceGhosts S) (k : SinkGhosts K) (d : DiskGho
                 any_moment = always ((of_disk d).told at.disk) (unchanged d only_now at.disk);
                 left = always ((of_disk d).told at.disk) (λ f left. left);
               };
-          unbegun = λ none. record { told = refl; left = λ f left. left; since = λ t f left. left; moment = refl; faults = omega arith };
+          unbegun = λ none. record { content = refl; told = refl; left = λ f left. left; since = λ t f left. left; moment = refl; faults = omega arith };
         };
     reads_so = none;
-    undrawn = λ e. absurd (cc e);
     untouched = λ e. absurd (elim e [ inl e ↦ cc e | inr e ↦ cc e ]);
   }
 
   pub nothing_done : (command : DiskCommand) (at : AtHand S K D F) → DoesSo s k d f command at at 8
-  nothing_done (Create name) at = nothing_made (NewSo f at at) (λ how. at.source ≡ at.source) (codes "create") name at refl
+  nothing_done (Create name) at = nothing_made (NewSo f at at) (at.fresh ≡ at.fresh) (λ how. at.source ≡ at.source) (codes "create") name at refl refl
   nothing_done (Install name) at =
-      nothing_made (AdoptedSo s f None at at) (ReadsImage s at at) (codes "install") name at (none_read image_limit (s.left at.source), tt, λ e. refl)
+      nothing_made (AdoptedSo s f None at at) (Untaken at at) (ReadsImage s at at) (codes "install") name at (refl, refl) (none_read image_limit (s.left at.source), tt)
   nothing_done (Restore name dsa) at =
-      nothing_made (AdoptedSo s f (Some dsa) at at) (ReadsImage s at at) (codes "restore") name at (none_read image_limit (s.left at.source), tt, λ e. refl)
+      nothing_made (AdoptedSo s f (Some dsa) at at) (Untaken at at) (ReadsImage s at at) (codes "restore") name at (refl, refl) (none_read image_limit (s.left at.source), tt)
   nothing_done (Backup name) at = nothing_looked refuses_backup backup_bytes at
   nothing_done (Show name) at = nothing_looked never (show_bytes name) at
   nothing_done (Export name) at = nothing_looked never export_bytes at

@@ -43,5 +43,7 @@ nothing_sent s n k source net sink = (
     sink_later = omega arith;
     doors_later = omega arith;
     lines_later = omega arith;
+    doors_only = λ not. refl;
+    lines_only = λ not. refl;
   },
 )

@@ -12,7 +12,6 @@ use Rattle.adr_node.specs.Looks.{Due, Looks, backup_bytes, due_of, export_bytes,
 use Rattle.adr_node.specs.Makes.{Adopts, IsNew, IsReadAtMost, Makes, ReadsSo, Verdict}
 use Rattle.adr_node.specs.declared.ended.Looked.{Looked}
 use Rattle.adr_node.specs.declared.ended.Looked.TheVariants as looks
-use Rattle.adr_node.specs.declared.ended.Refusal.TheVariants.{NotEmpty}
 use Rattle.adr_node.specs.declared.ended.Creation.{Creation}
 use Rattle.adr_node.specs.declared.ended.Creation.TheVariants as makes
 use Rattle.adr_words.specs.declared.kinds.DiskCommand.{DiskCommand}
@@ -52,22 +51,23 @@ LooksSo k d due before after status =
     (how : Looked) × (status ≡ status_of_look how) × Looks (of_disk d) k due before.disk after.disk before.sink after.sink how
     × (after.source ≡ before.source) × (after.fresh ≡ before.fresh)
 
--- A command that makes a controller has read and drawn so much. Where the disk has bytes it has drawn nothing, and where reading or
--- drawing failed, nothing has changed of the disk.
-pub record MakesSo {S K D F : Type 0} (k : SinkGhosts K) (d : DiskGhosts D) (comes : Verdict → Type 0) (reads : Creation → Type 0) (verb name : List ℕ)
-    (before after : AtHand S K D F) (status : ℕ) : Type 0 where
+-- A command that makes a controller has read so much. Where the disk has bytes, it has read and drawn nothing (`sees_first` of
+-- `Makes`), and where reading or drawing failed, nothing has changed of the disk.
+pub record MakesSo {S K D F : Type 0} (k : SinkGhosts K) (d : DiskGhosts D) (comes : Verdict → Type 0) (untaken : Type 0) (reads : Creation → Type 0)
+    (verb name : List ℕ) (before after : AtHand S K D F) (status : ℕ) : Type 0 where
   pub how : Creation
   pub status_is : status ≡ status_of_making how
-  pub made : Makes d k comes verb name before.disk after.disk before.sink after.sink how
+  pub made : Makes d k comes untaken verb name before.disk after.disk before.sink after.sink how
   pub reads_so : reads how
-  pub undrawn : how ≡ makes.Refused NotEmpty → after.fresh ≡ before.fresh
   pub untouched : (how ≡ makes.ReadFault) ⊎ (how ≡ makes.FreshFault) → Untouched d before.disk after.disk
 
--- of the source no more is read than an image may have, so much where the command came further, and nothing where the disk has bytes
+-- of the source no more is read than an image may have, and so much where the command came further
 abbrev pub ReadsImage : {S K D F : Type 0} → SourceGhosts S → AtHand S K D F → AtHand S K D F → Creation → Type 0
-ReadsImage s before after how =
-    IsReadAtMost (s.left before.source) (s.left after.source) × ReadsSo (s.left before.source) (s.left after.source) how
-    × (how ≡ makes.Refused NotEmpty → after.source ≡ before.source)
+ReadsImage s before after how = IsReadAtMost (s.left before.source) (s.left after.source) × ReadsSo (s.left before.source) (s.left after.source) how
+
+-- no image was read, and no identifier drawn
+abbrev pub Untaken : {S K D F : Type 0} → AtHand S K D F → AtHand S K D F → Type 0
+Untaken before after = (after.source ≡ before.source) × (after.fresh ≡ before.fresh)
 
 -- a fault has its cause, and no count of faults falls
 pub record HasCauses {S K D F : Type 0} (s : SourceGhosts S) (k : SinkGhosts K) (d : DiskGhosts D) (f : FreshGhosts F) (before after : AtHand S K D F)
@@ -93,11 +93,11 @@ NewSo f before after = IsNew (f.identifiers before.fresh) (f.identifiers after.f
 -- what each command does
 abbrev pub DoesSo : {S K D F : Type 0} → SourceGhosts S → SinkGhosts K → DiskGhosts D → FreshGhosts F → DiskCommand → AtHand S K D F → AtHand S K D F → ℕ → Type 0
 DoesSo s k d f (Create name) before after status =
-    MakesSo k d (NewSo f before after) (λ how. after.source ≡ before.source) (codes "create") name before after status
+    MakesSo k d (NewSo f before after) (after.fresh ≡ before.fresh) (λ how. after.source ≡ before.source) (codes "create") name before after status
 DoesSo s k d f (Install name) before after status =
-    MakesSo k d (AdoptedSo s f None before after) (ReadsImage s before after) (codes "install") name before after status
+    MakesSo k d (AdoptedSo s f None before after) (Untaken before after) (ReadsImage s before after) (codes "install") name before after status
 DoesSo s k d f (Restore name dsa) before after status =
-    MakesSo k d (AdoptedSo s f (Some dsa) before after) (ReadsImage s before after) (codes "restore") name before after status
+    MakesSo k d (AdoptedSo s f (Some dsa) before after) (Untaken before after) (ReadsImage s before after) (codes "restore") name before after status
 DoesSo s k d f (Backup name) before after status = LooksSo k d (due_of refuses_backup backup_bytes) before after status
 DoesSo s k d f (Show name) before after status = LooksSo k d (due_of never (show_bytes name)) before after status
 DoesSo s k d f (Export name) before after status = LooksSo k d (due_of never export_bytes) before after status

@@ -1,5 +1,5 @@
 -- Where a controller stands: its keeper, and the state in memory.
-use Rattle.std.specs.Prelude.{◌≡◌, Bool, true, false, Option, Some, None, Ok, IfSome}
+use Rattle.std.specs.Prelude.{◌≡◌, length, Bool, true, false, Option, Some, None, Ok, IfSome}
 use Rattle.adr_model.specs.Store.{State}
 use Rattle.adr_model.specs.Lengths.{Log, image_bytes}
 use Rattle.adr_law_journal.specs.Areas.{found}
@@ -31,5 +31,5 @@ pub record IsStarted {K : Type 0} (k : Ghosts K) (old : K) (c : Running K) : Typ
   pub up : c.down ≡ false
   pub at : k.is_at c.keeper (found state log)
   pub told : IfSome (k.told old) (λ t. t ≡ Ok (found state log))
-  -- where it is told how long its disk is, a bound begins with this log
-  pub within : IfSome (k.long c.keeper) (λ file. k.is_within c.keeper file (image_bytes log) 0)
+  -- where the bytes of its disk are told, a bound begins with this log
+  pub within : IfSome (k.content c.keeper) (λ bytes. k.is_within c.keeper (length bytes) (image_bytes log) 0)

@@ -66,6 +66,8 @@ impl<K: Keeper> Controller<K> {
             → (K.faults keeper < K.faults e.1) × (K.is_failed e.1 ≡ true)) }
         ensures no_memory { IfErr result (λ e. e.0 ≡ KeeperRefusal.NoMemory
             → KeepsAll K.Keeper keeper e.1) }
+        ensures unwritten { IfErr result (λ e. e.0 ≡ KeeperRefusal.NoMemory
+            → K.content e.1 ≡ K.content keeper) }
 
         // But for a fault of its disk, a keeper that comes back is empty still.
         ensures again { IfErr result (λ e. (e.0 ≡ KeeperRefusal.DiskFault) ⊎ K.is_empty e.1) }
@@ -103,6 +105,10 @@ impl<K: Keeper> Controller<K> {
             → K.faults keeper ≡ 2 ^ 64 - 1) }
         ensures still { IfErr result (λ e.
             StillReads K.told K.may_leave K.moment K.left_since e.0 keeper e.1) }
+
+        // But for a fault of its disk, its bytes are what they were.
+        ensures unwritten { (handed_back result ≡ Some StartRefusal.DiskFault)
+            ⊎ (K.content (keeper_of result) ≡ K.content keeper) }
         ensures later { K.faults keeper ≤ K.faults (keeper_of result) }
         ensures told { IsSome (K.told (keeper_of result)) ↔ IsSome (K.told keeper) }
 
@@ -136,6 +142,10 @@ impl<K: Keeper> Controller<K> {
             → K.faults self.old.keeper ≡ 2 ^ 64 - 1 }
         ensures still { IfErr result (λ e.
             StillReads K.told K.may_leave K.moment K.left_since e self.old.keeper self.new.keeper) }
+
+        // But for a fault of its disk, its bytes are what they were.
+        ensures unwritten { IsErrOf result StartRefusal.DiskFault
+            ⊎ (K.content self.new.keeper ≡ K.content self.old.keeper) }
         ensures later { K.faults self.old.keeper ≤ K.faults self.new.keeper }
         ensures told { IsSome (K.told self.new.keeper) ↔ IsSome (K.told self.old.keeper) }
 

@@ -1,7 +1,7 @@
 //! The present folder, and a file in it.
 
 use arrayvec::ArrayString;
-use std::fs::{File, Files, OpenFile, OpenOptions};
+use std::fs::{File, Files, OpenFile, OpenOptions, symlink_metadata};
 use std::io;
 use std::os::unix::fs::OpenOptionsExt;
 
@@ -31,17 +31,20 @@ fn locked(file: File) -> io::Result<File> {
     Ok(file)
 }
 
-/// Opens a file, if it is there.
+/// Opens a file, if it is there. What is no regular file of the folder itself is refused before it is opened: of a device
+/// length 0 is told, and a symbolic link may lead to a folder that is never synced.
 pub fn open<R: Files<File = File>>(files: &R, path: &FileName) -> io::Result<Option<File>> {
-    match OpenOptions::new()
+    match symlink_metadata(files, path.as_str()) {
+        Ok(found) if found.is_file() => {}
+        Ok(_) => return Err(io::Error::from(io::ErrorKind::InvalidInput)),
+        Err(e) if e.kind() == io::ErrorKind::NotFound => return Ok(None),
+        Err(e) => return Err(e),
+    }
+    let file = OpenOptions::new()
         .read(true)
         .write(true)
-        .open(files, path.as_str())
-    {
-        Ok(file) => Ok(Some(locked(file)?)),
-        Err(e) if e.kind() == io::ErrorKind::NotFound => Ok(None),
-        Err(e) => Err(e),
-    }
+        .open(files, path.as_str())?;
+    Ok(Some(locked(file)?))
 }
 
 /// Makes a file that isn't there, which its owner alone may read and write.

@@ -2,6 +2,7 @@
 #![tactic(auto)]
 
 ghost use Rattle.std.specs.Prelude.{◌≡◌, ◌+◌, ◌-◌, ◌^◌, ◌≤◌, Option, Some, None, true, false, ⊤, IfOk, OnOk, OnErr, IsErr, IsErrOf, length};
+ghost use Rattle.adr_disk.specs.Disk.{Counts, IsSpare};
 ghost use Rattle.adr_file.specs.State.{CountsOne};
 
 mod folder;
@@ -17,8 +18,9 @@ use std::os::unix::fs::FileExt;
 /// A file in the present folder, and how many calls have failed.
 ///
 /// It is made at its first write, with mode 0600 and never over another, and is locked while it is attached: a second
-/// process that would open or make it meets a fault. Where it isn't there it has no bytes. Before the first sync answers
-/// `Ok` the folder is synced too, so that a power failure leaves the file's name.
+/// process that would open or make it meets a fault, and so does whoever names a link, a device or a directory. Where it
+/// isn't there it has no bytes. Before the first sync answers `Ok` the folder is synced too, so that a power failure leaves
+/// the file's name.
 ///
 /// Where a sync failed, the file is let go, and each further call but `reserve` fails until `attach` opens it anew. By
 /// then Linux may have forgotten which bytes were not written, and a sync that passes says nothing of those.
@@ -162,6 +164,19 @@ impl<R: Files<File = File> + Drop> FileDisk<R> {
     }
 }
 
+/// Reads some bytes, at the end none. A read that a signal interrupts is made again, as std does with writes.
+fn read_some(file: &File, at: u64, into: &mut [u8]) -> io::Result<usize>
+    ensures { IfOk result (λ n. n ≤ length into.new) }
+{
+    for _ in 0..u64::MAX {
+        match file.read_at(into, at) {
+            Err(e) if e.kind() == io::ErrorKind::Interrupted => {}
+            told => return told,
+        }
+    }
+    Err(io::Error::from(io::ErrorKind::Interrupted))
+}
+
 /// Reads until the buffer is full or the file ends.
 fn fill_from(file: &File, at: u64, into: &mut [u8]) -> io::Result<usize>
     ensures { IfOk result (λ n. n ≤ length into.new) }
@@ -169,7 +184,7 @@ fn fill_from(file: &File, at: u64, into: &mut [u8]) -> io::Result<usize>
     let mut filled = 0;
     'parts: while filled < into.len() {
         let place = at.saturating_add(filled as u64);
-        match file.read_at(&mut into[filled..], place)? {
+        match read_some(file, place, &mut into[filled..])? {
             0 => break,
             n => filled += n,
         }
@@ -262,7 +277,12 @@ impl<R: Files<File = File> + Drop> Disk for FileDisk<R> {
         }
     }
 
-    fn reserve(&mut self, calls: u32, _bytes: u64) -> Result<(), Fault> {
+    /// It does nothing with the file.
+    fn reserve(&mut self, calls: u32, _bytes: u64) -> Result<(), Fault>
+        ensures reserved { OnOk result (IsSpare calls _bytes (2 ^ 64 - 1 - self.new.faults) (2 ^ 64)) }
+        ensures cause { Counts self.old.faults self.new.faults result }
+        ensures same { self.new ≡ self.old }
+    {
         if self.failures.has_room(calls) {
             Ok(())
         } else {

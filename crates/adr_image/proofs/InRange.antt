@@ -1,6 +1,6 @@
 -- A formed and spelled store, taken apart, is in range: it has an image.
 use Rattle.std.proofs.Common.{◌≡◌, ℕ, ◌<◌, ◌≤◌, ◌^◌, Bool, true, false, cond, eqb, leb, List, [], ◌∷◌, ◌++◌, length, map, fold, Option, Some, None, refl, sym, ap, subst, ◌∙◌, inl, inr, ⊎_elim, arith}
-use Rattle.std.specs.Prelude.{not, ◌&&◌, ◌⊎◌, is_some, filter, unwrap_or}
+use Rattle.std.specs.Prelude.{not, ◌&&◌, ◌⊎◌, filter, unwrap_or}
 use Rattle.std.specs.List.{flat_map, list_all, AllByRecursion, cons_option}
 use Rattle.std.specs.List.Sorted.{IsStrictlySortedBy}
 use Rattle.std.specs.Ordering.{is_eq}
@@ -17,10 +17,9 @@ use Rattle.adr_values.specs.contracts.stamp.OidOrd.TheImpl.Laws.{total-law as ob
 use Rattle.adr_values.specs.contracts.stamp.LinkKeyOrd.TheImpl.Laws.{total-law as links_total}
 use Rattle.adr_values.proofs.ExactOrders.{exact_objects}
 use Rattle.adr_values.specs.Table.{Table, has, must_of}
-use Rattle.adr_values.specs.Schemas.{schema_table, schema_1, schema_2}
 use Rattle.adr_values.specs.Numbered.{numbered}
 use Rattle.adr_wire.specs.Reading.{is_above}
-use Rattle.adr_wire.specs.Ranges.{IsU32, IsId, IsMark, InTurn}
+use Rattle.adr_wire.specs.Ranges.{IsId, IsMark, InTurn}
 use Rattle.adr_wire.specs.Gathering.{Along}
 use Rattle.adr_model.specs.Member.{Member, Each}
 use Rattle.adr_model.specs.Update.{Identifier, RowOf, Update, same_object}
@@ -239,17 +238,6 @@ marked last (k ∷ ks) turn spelled ordered =
       marked (Some k.0) ks turn.1 (λ x m. spelled x (inr m)) (λ x m. ordered x (inr m)),
     )
 
-number_of_schema : (n : ℕ) → is_some (schema_table n) ≡ true → IsU32 n
-number_of_schema n there = by (eqb n 1) refl there
-  where
-    other : (b : Bool) → eqb n 2 ≡ b → is_some (cond b (Some schema_2) None) ≡ true → IsU32 n
-    other true e h = let two = eqb-true n 2 e in omega (arith, two)
-    other false e h = absurd (cc)
-
-    by : (b : Bool) → eqb n 1 ≡ b → is_some (cond b (Some schema_1) (cond (eqb n 2) (Some schema_2) None)) ≡ true → IsU32 n
-    by true e h = let one = eqb-true n 1 e in omega (arith, one)
-    by false e h = other (eqb n 2) refl h
-
 module _ (s : Store) (f : IsFormedStore s) (q : IsSpelled s) where
   abbrev pub os : List Rows
   os = (apart s.rows).0
@@ -283,7 +271,7 @@ module _ (s : Store) (f : IsFormedStore s) (q : IsSpelled s) where
 
   pub in_range : AreParts (parts_in s)
   in_range = record {
-    schema = (number_of_schema s.schema q.schema, q.schema);
+    schema = q.schema;
     usn = q.usn;
     vector = (f.vector, q.vector);
     purged = ((f.purged, q.purged), f.purged_within);

@@ -59,7 +59,7 @@ module _ (p : Parts) (q : AreParts p) where
   pub spelled : IsSpelled (store_of p)
   spelled =
       record {
-        schema = q.schema.1;
+        schema = q.schema;
         usn = q.usn;
         vector = q.vector.1;
         times = refl;

@@ -1,6 +1,6 @@
 -- A spelled store stays spelled by what a body in range says.
 use Rattle.std.proofs.Common.{◌≡◌, ℕ, ◌<◌, ◌^◌, Bool, true, false, cond, List, [], ◌∷◌, map, fold, Option, Some, None, refl, sym, ap, subst, ◌∙◌, inl, inr, ⊎_elim, arith}
-use Rattle.std.specs.Prelude.{◌⊎◌, is_some}
+use Rattle.std.specs.Prelude.{◌⊎◌}
 use Rattle.std.specs.BTreeMap.{insert_entry}
 use Rattle.std.specs.List.{AllByRecursion}
 use Rattle.std.specs.List.Sorted.{IsStrictlySortedBy}
@@ -13,7 +13,6 @@ use Rattle.std.proofs.lemmas.Cmp.{nat_list_cmp_total}
 use Rattle.adr_values.specs.declared.stamp.Oid.{Oid}
 use Rattle.adr_values.specs.Order.{identifier_order}
 use Rattle.adr_values.specs.Numbered.{numbered}
-use Rattle.adr_values.specs.Schemas.{schema_table}
 use Rattle.adr_values.specs.Vector.{Cursors, at, covers, raised, joined}
 use Rattle.adr_wire.specs.Composites.{Row}
 use Rattle.adr_wire.specs.Pieces.{Piece, OfRows, OfLink, IsPiece}
@@ -139,9 +138,9 @@ held_right ws each h m =
 
 -- ---- the whole
 
-pub stays_spelled : (s : State) (c : Change) → IsId s.inv → IsSpelled s.store → is_some (schema_table c.schema) ≡ true → HasBody s.store.usn c.schema c → AreClassesKnown (numbered c.schema) (updates_of (after s c).store.rows) → IsSpelled (after s c).store
-stays_spelled s c id q there has known = subst (λ (d : Change). IsSpelled (after s d).store) (sym has.says) (let b = has.in_range in record {
-  schema = there;
+pub stays_spelled : (s : State) (c : Change) → IsId s.inv → IsSpelled s.store → HasBody s.store.usn s.store.schema c → AreClassesKnown (numbered c.schema) (updates_of (after s c).store.rows) → IsSpelled (after s c).store
+stays_spelled s c id q has known = subst (λ (d : Change). IsSpelled (after s d).store) (sym has.says) (let b = has.in_range in record {
+  schema = q.schema;
   usn = b.0;
   vector = raised_spelled (joined s.store.vector has.body.1.1.1.0) s.inv has.body.0 (joined_spelled s.store.vector has.body.1.1.1.0 q.vector b.1.1.1.0.1) id b.0;
   times = q.times;
@@ -150,7 +149,7 @@ stays_spelled s c id q there has known = subst (λ (d : Change). IsSpelled (afte
   partners = partners_rise has.body.1.1.0 s.store.marks q.partners;
   rows = λ h m. ⊎_elim (λ w. held_right _ (writes_right (Some s.store.usn) has.body.1.1.1.1.1.1 b.1.1.1.1.1.1.1) h w) (λ r. q.rows h r)
       (from_writes (held_of (map written_of has.body.1.1.1.1.1.1)) s.store.rows h (from_removals has.body.1.1.1.1.1.0 (fold put s.store.rows (held_of (map written_of has.body.1.1.1.1.1.1))) h m));
-  classes = λ h m. subst (λ (d : Change). AreClassesKnown (numbered c.schema) (updates_of (after s d).store.rows)) has.says known h.update
+  classes = λ h m. subst (λ (d : Change). AreClassesKnown (numbered d.schema) (updates_of (after s d).store.rows)) has.says known h.update
       (member_mapped (λ (x : Held). x.update) (rows_after has.body.1.1.1.1.1.0 (held_of (map written_of has.body.1.1.1.1.1.1)) s.store.rows) h m);
 })
 

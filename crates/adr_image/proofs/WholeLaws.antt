@@ -1,8 +1,8 @@
 -- A whole image is spelled in one way.
 use Rattle.std.proofs.Common.{◌≡◌, ℕ, ◌≤◌, Bool, true, leb, List, ◌++◌, Ok, refl, arith}
-use Rattle.std.specs.Prelude.{is_some}
+use Rattle.std.specs.Prelude.{◌==◌}
+use Rattle.std.proofs.lemmas.Bool.{eqb-true, eq-eqb}
 use Rattle.adr_values.specs.Table.{Table}
-use Rattle.adr_values.specs.Schemas.{schema_table}
 use Rattle.adr_values.specs.Numbered.{numbered}
 use Rattle.adr_values.specs.Vector.{Cursors, at_most}
 use Rattle.adr_wire.specs.Reading.{Reading, where_at, then_at}
@@ -17,7 +17,7 @@ use Rattle.adr_wire.proofs.VectorLaws.{vector_spelled}
 use Rattle.adr_model.specs.Take.{mark_limit}
 use Rattle.adr_model.specs.Write.{object_limit, link_limit, usn_limit}
 use Rattle.adr_image.specs.Image.{Rows, HeldLink, Marked, kept, kept_above, marks_of, object_at, object, no_objects, with_rows, link_at, held_link, with_link}
-use Rattle.adr_image.specs.Whole.{Parts, count_at, marks_at, objects_at, links_at, dead_of, no_links, Tuple, tuple_at, parts_of, parts_at, magic, read_parts, marks, objects, links, body, image_of}
+use Rattle.adr_image.specs.Whole.{Parts, image_schema, count_at, marks_at, objects_at, links_at, dead_of, no_links, Tuple, tuple_at, parts_of, parts_at, magic, read_parts, marks, objects, links, body, image_of}
 use Rattle.adr_image.specs.Ranged.{IsCount, IsMarked, AreMarks, IsObjectIn, AreObjects, IsLinkIn, AreLinks, AreParts}
 use Rattle.adr_image.proofs.ImageLaws.{kept_spelled, object_in_spelled, link_in_spelled}
 
@@ -118,28 +118,32 @@ six_at schema = then_at usn0_at (λ usn. five_at usn (numbered schema))
 six_spelled : (schema : ℕ) → IsSpelling (AreSix schema) six (six_at schema)
 six_spelled schema = both IsUsn0 u64 usn0_at usn0_spelled (λ usn. AreFive usn (numbered schema)) (λ _. five) (λ usn. five_at usn (numbered schema)) (λ usn h. five_spelled usn (numbered schema) (omega (arith, h)))
 
-abbrev pub is_known : ℕ → Bool
-is_known n = is_some (schema_table n)
+-- the number of an image's schema
+abbrev pub is_images : ℕ → Bool
+is_images n = n == image_schema
 
 abbrev AreTuple : Tuple → Type 0
-AreTuple t = (IsU32 t.0 × (is_known t.0 ≡ true)) × AreSix t.0 t.1
+AreTuple t = (IsU32 t.0 × (is_images t.0 ≡ true)) × AreSix t.0 t.1
 
 abbrev tuple : Tuple → List ℕ
 tuple t = u32 t.0 ++ six t.1
 
 tuple_spelled : IsSpelling AreTuple tuple tuple_at
 unfolding tuple_at
-tuple_spelled = both (λ n. IsU32 n × (is_known n ≡ true)) u32 (where_at is_known u32_at) (passed IsU32 u32 u32_at u32_spelled is_known) AreSix (λ _. six) six_at (λ schema h. six_spelled schema)
+tuple_spelled = both (λ n. IsU32 n × (is_images n ≡ true)) u32 (where_at is_images u32_at) (passed IsU32 u32 u32_at u32_spelled is_images) AreSix (λ _. six) six_at (λ schema h. six_spelled schema)
 
 abbrev tuple_of : Parts → Tuple
 tuple_of p = (p.schema, (p.usn, (p.vector, (p.purged, (p.marks, (p.objects, p.links))))))
+
+images_number : (n : ℕ) → n ≡ image_schema → IsU32 n × (is_images n ≡ true)
+images_number n e = (omega (arith, e), eq-eqb n image_schema e)
 
 pub parts_spelled : IsSpelling AreParts body parts_at
 unfolding parts_at
 parts_spelled =
     made AreTuple tuple tuple_at tuple_spelled parts_of AreParts body
-    (λ p q. (tuple_of p, refl, (q.schema, (q.usn, (q.vector, (q.purged, (q.marks, (q.objects, q.links)))))), refl))
-    (λ t q fits. (record { schema = q.0; usn = q.1.0; vector = q.1.1.0; purged = q.1.1.1.0; marks = q.1.1.1.1.0; objects = q.1.1.1.1.1.0; links = q.1.1.1.1.1.1 }, refl))
+    (λ p q. (tuple_of p, refl, (images_number p.schema q.schema, (q.usn, (q.vector, (q.purged, (q.marks, (q.objects, q.links)))))), refl))
+    (λ t q fits. (record { schema = eqb-true t.0 image_schema q.0.1; usn = q.1.0; vector = q.1.1.0; purged = q.1.1.1.0; marks = q.1.1.1.1.0; objects = q.1.1.1.1.1.0; links = q.1.1.1.1.1.1 }, refl))
 
 -- ---- behind magic and version, to the end
 

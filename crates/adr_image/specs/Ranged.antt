@@ -1,10 +1,9 @@
 -- Which parts of an image have a spelling.
-use Rattle.std.specs.Prelude.{◌≡◌, ℕ, List, length, Bool, true, not, ◌&&◌, nat_le, Option, None, is_some}
+use Rattle.std.specs.Prelude.{◌≡◌, ℕ, List, length, Bool, true, not, ◌&&◌, nat_le, Option, None}
 use Rattle.adr_values.specs.declared.stamp.Oid.{Oid}
 use Rattle.adr_values.specs.declared.stamp.LinkKey.{LinkKey}
 use Rattle.adr_values.specs.Order.{identifier_order, object_order, link_order}
 use Rattle.adr_values.specs.Table.{Table, has, kind_at, is_forward}
-use Rattle.adr_values.specs.Schemas.{schema_table}
 use Rattle.adr_values.specs.Numbered.{numbered}
 use Rattle.adr_values.specs.Vector.{at_most}
 use Rattle.adr_wire.specs.Reading.{is_above}
@@ -16,7 +15,7 @@ use Rattle.adr_model.specs.Take.{mark_limit}
 use Rattle.adr_image.specs.declared.rows.Before.{Before}
 use Rattle.adr_wire.specs.Gathering.{Along}
 use Rattle.adr_image.specs.Image.{HeldRow, Rows, HeldLink, no_rows, with_held, is_allowed, Earlier, no_objects, with_rows, is_whole, Linked, with_link, Marked}
-use Rattle.adr_image.specs.Whole.{Parts, dead_of, no_links}
+use Rattle.adr_image.specs.Whole.{Parts, image_schema, dead_of, no_links}
 
 -- from 1 to the USN of the image
 abbrev pub IsLocal : ℕ → ℕ → Type 0
@@ -62,7 +61,7 @@ abbrev pub AreLinks : ℕ → Table → List Rows → List HeldLink → Type 0
 AreLinks usn table os ls = IsCount link_limit (length ls) × Along with_link (IsLinkIn usn table (dead_of os)) (no_links os) ls
 
 pub record AreParts (p : Parts) : Type 0 where
-  pub schema : IsU32 p.schema × (is_some (schema_table p.schema) ≡ true)
+  pub schema : p.schema ≡ image_schema
   pub usn : IsUsn0 p.usn
   pub vector : IsCursors p.vector
   pub purged : IsCursors p.purged × (at_most p.purged p.vector ≡ true)

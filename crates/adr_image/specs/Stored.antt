@@ -7,7 +7,6 @@ use Rattle.adr_values.specs.declared.stamp.Oid.{Oid}
 use Rattle.adr_values.specs.declared.stamp.LinkStamp.{LinkStamp}
 use Rattle.adr_values.specs.declared.content.Content.TheVariants.{Class}
 use Rattle.adr_values.specs.Table.{class_at}
-use Rattle.adr_values.specs.Schemas.{schema_table}
 use Rattle.adr_values.specs.Numbered.{numbered}
 use Rattle.adr_wire.specs.declared.refusal.DecodeRefusal.{DecodeRefusal}
 use Rattle.adr_wire.specs.Headed.{headed_at, read_first}
@@ -17,7 +16,7 @@ use Rattle.adr_model.specs.Member.{Each}
 use Rattle.adr_model.specs.Update.{Key, RowOf, LinkOf, Said, Holds, IsPresent, same_object}
 use Rattle.adr_model.specs.Store.{Held, Store}
 use Rattle.adr_image.specs.Image.{HeldRow, Rows, HeldLink, Marked}
-use Rattle.adr_image.specs.Whole.{Parts, magic, parts_at, image_of}
+use Rattle.adr_image.specs.Whole.{Parts, image_schema, magic, parts_at, image_of}
 
 -- ---- from parts to a store, which has no times
 
@@ -93,7 +92,7 @@ IsSpelledRow (LinkOf l) (Holds c) stamp = ⊥
 IsSpelledRow (LinkOf l) (IsPresent b) stamp = IsOid l.from × IsU16 l.attr × IsOid l.to × IsU64 stamp.created × IsStamp stamp.stamp
 
 pub record IsSpelled (s : Store) : Type 0 where
-  pub schema : is_some (schema_table s.schema) ≡ true
+  pub schema : s.schema ≡ image_schema
   pub usn : IsUsn0 s.usn
   pub vector : AllByRecursion IsCursor s.vector
   -- images tell no times

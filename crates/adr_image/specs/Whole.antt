@@ -1,9 +1,8 @@
 -- A whole image: its parts as bytes, and the store that they are.
-use Rattle.std.specs.Prelude.{ℕ, List, [], ◌∷◌, ◌++◌, length, map, nat_le, filter, fold, None, is_some, Result}
+use Rattle.std.specs.Prelude.{ℕ, List, [], ◌∷◌, ◌++◌, ◌==◌, length, map, nat_le, filter, fold, None, Result}
 use Rattle.std.specs.List.{flat_map}
 use Rattle.adr_values.specs.declared.stamp.Oid.{Oid}
 use Rattle.adr_values.specs.Table.{Table}
-use Rattle.adr_values.specs.Schemas.{schema_table}
 use Rattle.adr_values.specs.Numbered.{numbered}
 use Rattle.adr_values.specs.Vector.{Cursors, at_most}
 use Rattle.adr_wire.specs.declared.refusal.DecodeRefusal.{DecodeRefusal}
@@ -14,6 +13,10 @@ use Rattle.adr_wire.specs.Composites.{vector_at, vector}
 use Rattle.adr_model.specs.Write.{object_limit, link_limit}
 use Rattle.adr_model.specs.Take.{mark_limit}
 use Rattle.adr_image.specs.Image.{Rows, HeldLink, Marked, no_objects, with_rows, object_at, object, is_dead, Linked, with_link, link_at, held_link, marks_of, kept}
+
+-- the number of the schema that each image of this version has
+abbrev pub image_schema : ℕ
+image_schema = 1
 
 -- what an image says, in its order
 pub record Parts : Type 0 where
@@ -53,7 +56,7 @@ Tuple = ℕ × (ℕ × (Cursors × (Cursors × (List Marked × (List Rows × Lis
 -- what stands behind the version
 unfoldable pub tuple_at : Reading Tuple
 tuple_at =
-    then_at (where_at (λ n. is_some (schema_table n)) u32_at) (λ schema.
+    then_at (where_at (λ n. n == image_schema) u32_at) (λ schema.
     then_at usn0_at (λ usn.
     then_at vector_at (λ seen.
     then_at (where_at (λ p. at_most p seen) vector_at) (λ _.

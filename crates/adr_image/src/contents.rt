@@ -1,8 +1,7 @@
 //! What stands behind the version of an image.
 
-ghost use Rattle.std.specs.Prelude.{◌≡◌, ◌≤◌, IfOk, is_some};
+ghost use Rattle.std.specs.Prelude.{◌≡◌, ◌≤◌, ◌==◌, IfOk};
 ghost use Rattle.adr_values.specs.Numbered.{numbered};
-ghost use Rattle.adr_values.specs.Schemas.{schema_table};
 ghost use Rattle.adr_model.specs.Write.{usn_limit};
 ghost use Rattle.adr_values.specs.Vector.{at_most};
 ghost use Rattle.adr_wire.specs.Composites.{vector_at};
@@ -10,7 +9,7 @@ ghost use Rattle.adr_wire.specs.Fields.{u32_at};
 ghost use Rattle.adr_wire.specs.Reading.{Gives, TellsAs, then_at, where_at};
 ghost use Rattle.adr_image.specs.Seen.{GivesSeen};
 ghost use Rattle.adr_image.specs.Stored.{rows_of, store_of};
-ghost use Rattle.adr_image.specs.Whole.{links_at, objects_at, parts_at};
+ghost use Rattle.adr_image.specs.Whole.{image_schema, links_at, objects_at, parts_at};
 
 use crate::gathered::{read_links, read_objects};
 use crate::marks::read_marks;
@@ -111,18 +110,21 @@ impl<'a> Model for ContentsRef<'a> {
     ghost invariant = { λ c. c.schema ≡ numbered c.schema.number };
 }
 
-/// A schema by its number.
+/// The number of the schema that each image of this version has.
+const IMAGE_SCHEMA: u32 = 1;
+
+/// The schema of an image, by its number.
 fn read_schema(reader: &mut Reader<'_>) -> Result<Schema, WireRefusal>
     ensures number { TellsAs (λ schema. schema.number) result reader.new
-        (where_at (λ n. is_some (schema_table n)) u32_at reader.old) }
+        (where_at (λ n. n == image_schema) u32_at reader.old) }
     ensures table { IfOk result (λ schema. schema ≡ numbered schema.number) }
 {
     let place = reader.place();
     let number = reader.read_u32()?;
-    match Schema::new(number) {
-        Some(schema) => Ok(schema),
-        None => Err(Failure::Refused(Malformed { place })),
+    if number != IMAGE_SCHEMA {
+        return Err(Failure::Refused(Malformed { place }));
     }
+    Ok(Schema::new(IMAGE_SCHEMA).unwrap())
 }
 
 /// The vector of what was collected, which is within the other.

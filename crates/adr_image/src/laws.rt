@@ -1,9 +1,8 @@
 //! What is written is read again, and what is read was written so.
 
-ghost use Rattle.std.specs.Prelude.{◌≡◌, ℕ, List, Ok, Err, Some, length, take, is_some, true};
+ghost use Rattle.std.specs.Prelude.{◌≡◌, ℕ, List, Ok, Err, Some, length, take};
 ghost use Rattle.adr_wire.specs.declared.refusal.DecodeRefusal.TheVariants.{Malformed};
 ghost use Rattle.adr_values.specs.Numbered.{numbered};
-ghost use Rattle.adr_values.specs.Schemas.{schema_table};
 ghost use Rattle.adr_wire.specs.Ranges.{IsId};
 ghost use Rattle.adr_wire.specs.Spelling.{AreBytes, IsSpelling};
 ghost use Rattle.adr_model.specs.Formed.{IsFormedStore};
@@ -58,12 +57,12 @@ pub fn changes_have_one_spelling()
         → length (change_bytes c) ≡ change_length c }
 {}
 
-/// The store of a new controller is spelled, and a spelled store stays so by a change that a body in range says and that
-/// leaves known classes of a known schema.
+/// The store of a new controller is spelled, and a spelled store stays so by a change that a body in range says under its
+/// schema and that leaves known classes.
 pub fn stores_stay_spelled()
     ensures begin { IsSpelled (empty_store 1) }
     ensures stay { (s : State) (c : Change) → IsId s.inv → IsSpelled s.store
-        → is_some (schema_table c.schema) ≡ true → HasBody s.store.usn c.schema c
+        → HasBody s.store.usn s.store.schema c
         → AreClassesKnown (numbered c.schema) (updates_of (after s c).store.rows) → IsSpelled (after s c).store }
 {}
 

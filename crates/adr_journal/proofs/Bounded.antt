@@ -1,7 +1,6 @@
 -- How long a commit and a format let a disk become.
 use Rattle.std.proofs.Common.{◌≡◌, ◌⊎◌, inl, inr, ⊎_elim, ℕ, ◌+◌, ◌≤◌, ◌<◌, List, length, Bool, true, false, Option, Ok, Err, IfSome, IsSome, refl, sym, ◌∙◌, ap, subst, arith, if◌then◌else◌}
 use Rattle.std.specs.Prelude.{◌↔◌, ◌&&◌, ◌||◌, max, nat_le, nat_lt}
-use Rattle.std.specs.Option.{option_map}
 use Rattle.std.proofs.lemmas.Bool.{leb-true, leb-false, ltb-false}
 use Rattle.adr_disk.specs.Disk.{Among}
 use Rattle.adr_wire.specs.Reading.{Reading}
@@ -13,7 +12,7 @@ use Rattle.adr_law_journal.specs.Areas.{Began, Found, found, Started, start_of}
 use Rattle.adr_law_journal.specs.Bound.{IsBounded, IsPlaced, IsUndue}
 use Rattle.adr_law_journal.proofs.Bounds.{records_stay, areas_stay, files_stay}
 use Rattle.adr_law_journal.proofs.Settled.{stands}
-use Rattle.adr_law_journal.proofs.Told.{if_mapped, if_told, at_told, some_of, is_some_of}
+use Rattle.adr_law_journal.proofs.Told.{if_told, at_told, some_of, is_some_of}
 use Rattle.adr_journal.specs.Kept.{Ids, ids_of, layout_of, IsAt, IsWithin}
 use Rattle.adr_journal.specs.Written.{AreNoLonger, IsNone, IsOneOfThree}
 
@@ -140,9 +139,9 @@ found_bounded file l apart first ends = record {
 
 pub found_within : {D : Type 0} (head : Reading Ids) (area : Ids → Reading (Began State)) (following : ℕ → Following State) (content : D → Option (List ℕ)) (may_leave : D → List ℕ → Type 0) (disk : D) (log : Log) (f : Found State)
     → IsAt head area following content may_leave disk log f → f.log.place + 6 ≤ f.log.first → f.log.first < f.log.log_end → IfSome (content disk) (λ there. f.log.log_end ≤ length there)
-    → IfSome (option_map length (content disk)) (λ file. IsWithin head area following content may_leave disk file (image_bytes f.log) 0)
+    → IfSome (content disk) (λ there. IsWithin head area following content may_leave disk (length there) (image_bytes f.log) 0)
 found_within head area following content may_leave disk log f at apart first ends =
-    if_mapped length (content disk) (λ file. IsWithin head area following content may_leave disk file (image_bytes f.log) 0) (λ there told.
+    if_told (content disk) (λ there. IsWithin head area following content may_leave disk (length there) (image_bytes f.log) 0) (λ there told.
     if_told (content disk) _ (λ other known bytes left.
     let is : bytes ≡ there = at.settled.synced there told bytes left in
     let finds = stands (layout_of head area following at.front (ids_of f.state) at.is_head) f.state f.log there (at.settled.at_rest there told) in

@@ -1,5 +1,5 @@
 -- What is found, by other words.
-use Rattle.std.proofs.Common.{◌≡◌, inl, inr, ⊎_elim, ℕ, ◌+◌, List, [], ◌∷◌, length, Option, Some, None, Result, Ok, Err, IfSome, refl, sym, ◌∙◌, ap, subst, arith, length-append}
+use Rattle.std.proofs.Common.{◌≡◌, ◌⊎◌, inl, inr, ⊎_elim, ℕ, ◌+◌, List, [], ◌∷◌, length, Option, Some, None, Result, Ok, Err, IfSome, refl, sym, ◌∙◌, ap, subst, arith, length-append}
 use Rattle.std.specs.Prelude.{◌↔◌, IsSome, IsErrOf, true, false}
 use Rattle.std.specs.Option.{ForSome, option_map}
 use Rattle.adr_disk.specs.Disk.{Among, Elapses, Keeps, LeavesOnly}
@@ -148,6 +148,14 @@ read_still content may_leave moment left_since old new DiskFault settled h = tt
 read_still content may_leave moment left_since old new (Damaged place) settled h = h
 read_still content may_leave moment left_since old new (NoMemory true) settled h = h
 read_still content may_leave moment left_since old new (NoMemory false) settled h = absurd (settled refl)
+
+-- but for a fault of the disk, what is read stays
+pub still_there : {D O : Type 0} (content : D → Option O) (may_leave : D → O → Type 0) (moment : D → ℕ) (left_since : D → ℕ → O → Type 0) (old new : D) (e : StartRefusal)
+    → StillReads content may_leave moment left_since e old new → (e ≡ DiskFault) ⊎ (content new ≡ content old)
+still_there content may_leave moment left_since old new DiskFault h = inl refl
+still_there content may_leave moment left_since old new (Damaged place) h = inr h.0
+still_there content may_leave moment left_since old new (NoMemory true) h = inr h.0
+still_there content may_leave moment left_since old new (NoMemory false) h = inr h.content_stays
 
 -- ---- whatever has such a disk
 

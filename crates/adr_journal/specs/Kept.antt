@@ -18,7 +18,7 @@ Ids = List ℕ × List ℕ
 abbrev pub ids_of : State → Ids
 ids_of s = (s.dsa, s.inv)
 
--- it has no log: it was never formatted or started, and its disk, where it tells its bytes, has none
+-- it has no log: its disk, where it tells its bytes, has none, and a crash leaves none
 pub record IsEmpty {D : Type 0} (content : D → Option (List ℕ)) (may_leave : D → List ℕ → Type 0) (disk : D) : Type 0 where
   pub empty : ForSome (content disk) (λ there. there ≡ [])
   pub synced : ForSome (content disk) (λ there. Only there (may_leave disk))

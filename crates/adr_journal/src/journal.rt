@@ -1,6 +1,6 @@
 //! A journal on a disk.
 
-ghost use Rattle.std.specs.Prelude.{◌≡◌, ℕ, [], false, length};
+ghost use Rattle.std.specs.Prelude.{◌≡◌, ℕ, [], false};
 ghost use Rattle.std.specs.Fn.{FnOnceReturnsAtMut};
 ghost use Rattle.std.specs.Option.{ForSome, option_map};
 ghost use Rattle.adr_disk.specs.Disk.{Among, Only};
@@ -52,7 +52,7 @@ impl<D: Disk, F: Form> Journal<D, F> {
         ensures since { (t : ℕ) → Among (⟦<Journal<D, F> as Keeper>⟧.left_since self t) (Finds F.head F.area F.following (D.left_since result t)) }
         ensures moment { D.moment result ≡ ⟦<Journal<D, F> as Keeper>⟧.moment self }
         ensures faults { D.faults result ≡ ⟦<Journal<D, F> as Keeper>⟧.faults self }
-        ensures long { option_map length (D.content result) ≡ ⟦<Journal<D, F> as Keeper>⟧.long self }
+        ensures content { D.content result ≡ ⟦<Journal<D, F> as Keeper>⟧.content self }
     {
         let Journal {
             disk,
@@ -100,7 +100,7 @@ impl<D: Disk, F: Form> Journal<D, F> {
 }
 
 impl<D: Disk, F: Form> Keeper for Journal<D, F> {
-    ghost use Rattle.std.specs.Prelude.{◌≡◌, false, length};
+    ghost use Rattle.std.specs.Prelude.{◌≡◌, false};
     ghost use Rattle.std.specs.Option.{option_map};
     ghost use Rattle.adr_law_journal.specs.Areas.{start_of};
     ghost use Rattle.adr_law_journal.specs.Kept.{Finds};
@@ -120,7 +120,7 @@ impl<D: Disk, F: Form> Keeper for Journal<D, F> {
 
     ghost is_within = { λ j file image longest. IsWithin F.head F.area F.following D.content D.may_leave j.disk file image longest };
 
-    ghost long = { λ j. option_map length (D.content j.disk) };
+    ghost content = { λ j. D.content j.disk };
 
     ghost told = { λ j. option_map (start_of F.head F.area F.following) (D.content j.disk) };
 

@@ -1,6 +1,6 @@
 //! What keeps a state.
 
-ghost use Rattle.std.specs.Prelude.{◌≡◌, ◌⊎◌, ◌↔◌, ℕ, ◌+◌, ◌-◌, ◌^◌, ◌≤◌, ◌<◌, max, if◌then◌else◌, Bool, true, false, Option, IsSome, Ok, IfOk, IfErr, OnOk, OnErr, IsErrOf, IfSome, ⊤};
+ghost use Rattle.std.specs.Prelude.{◌≡◌, ◌⊎◌, ◌↔◌, ℕ, ◌+◌, ◌-◌, ◌^◌, ◌≤◌, ◌<◌, max, length, if◌then◌else◌, Bool, List, true, false, Option, IsSome, Ok, IfOk, IfErr, OnOk, OnErr, IsErrOf, IfSome, ⊤};
 ghost use Rattle.adr_disk.specs.Disk.{Among, Keeps, LeavesOnly};
 ghost use Rattle.adr_model.specs.Store.{State as Defined};
 ghost use Rattle.adr_model.specs.Change.{Change as Changes, after};
@@ -68,7 +68,7 @@ pub trait Keeper {
     /// Whether one failed since the last format or start.
     ghost is_failed: { Self → Bool };
 
-    /// It was never formatted or started, and its disk, where it tells its bytes, has none.
+    /// It has no log: its disk, where it tells its bytes, has none, and a crash leaves none.
     ghost is_empty: { Self → Type 0 };
 
     /// It was formatted or started, and while it isn't failed, it stands for this.
@@ -98,8 +98,8 @@ pub trait Keeper {
     /// formatted, and no image and no record that was written or found is longer than these.
     ghost is_within: { Self → ℕ → ℕ → ℕ → Type 0 };
 
-    /// How many bytes its disk has, where that is told.
-    ghost long: { Self → Option ℕ };
+    /// The bytes of its disk, where they are told.
+    ghost content: { Self → Option (List ℕ) };
 
     /// What a call did, where it is told to the last: from a keeper, by a call that ended so, to a keeper.
     ghost formats: { Self → Option Refusal → Self → Type 0 } = { λ _ _ _. ⊤ };
@@ -128,6 +128,7 @@ pub trait Keeper {
             → (faults self.old < faults self.new) × (is_failed self.new ≡ true) }
         ensures no_memory { IsErrOf result KeeperRefusal.NoMemory
             → Keeps told may_leave moment left_since self.old self.new }
+        ensures unwritten { IsErrOf result KeeperRefusal.NoMemory → content self.new ≡ content self.old }
         ensures again { IsErrOf result KeeperRefusal.NoMemory → is_empty self.new }
         ensures later { faults self.old ≤ faults self.new }
         ensures told { IsSome (told self.new) ↔ IsSome (told self.old) }
@@ -202,6 +203,9 @@ pub trait Keeper {
         ensures uncounted { IsErrOf result (StartRefusal.NoMemory false) → faults self.old ≡ 2 ^ 64 - 1 }
         ensures stays { OnErr result (IsErrOf result StartRefusal.DiskFault ⊎ (is_failed self.new ≡ is_failed self.old)) }
         ensures still { IfErr result (λ e. StillReads told may_leave moment left_since e self.old self.new) }
+
+        // But for a fault of its disk, its bytes are what they were.
+        ensures unwritten { IsErrOf result StartRefusal.DiskFault ⊎ (content self.new ≡ content self.old) }
         ensures later { faults self.old ≤ faults self.new }
         ensures told { IsSome (told self.new) ↔ IsSome (told self.old) }
 
@@ -210,9 +214,9 @@ pub trait Keeper {
         ensures left { Among (may_leave self.old) (may_leave self.new) }
         ensures within { (file image longest : ℕ) → is_within self.old file image longest → is_within self.new file image longest }
 
-        // Where it is told how long its disk is, a bound begins with the log that was found.
+        // Where its bytes are told, a bound begins with the log that was found.
         ensures within_found { IfOk result (λ s. (log : Log) → is_at self.new (found s log)
-            → IfSome (long self.new) (λ file. is_within self.new file (image_bytes log) 0)) }
+            → IfSome (content self.new) (λ bytes. is_within self.new (length bytes) (image_bytes log) 0)) }
         ensures starts { starts self.old (ended_start result) self.new };
 
     /// What a start would find of a keeper that isn't failed, now and after a crash, is what it stands for.

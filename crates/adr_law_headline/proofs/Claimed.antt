@@ -20,6 +20,9 @@ use Rattle.adr_law_convergence.proofs.RefusalsNone.{never_too_old, no_damage}
 use Rattle.adr_law_convergence.proofs.CoveredEvents.{stays_covered}
 use Rattle.adr_law_convergence.proofs.Together.{runs_come_together}
 use Rattle.adr_law_headline.specs.Headline.{Headline}
+use Rattle.adr_law_headline.proofs.NormalControllers.{all_normal, leaves_all_normal}
+use Rattle.adr_law_headline.proofs.WholeCycles.{cycles_end}
+use Rattle.adr_law_headline.proofs.OpenAnswers.{none_is_quarantined}
 
 -- the first lines of those that may happen may happen
 pub first_may : (before after : List Event) (w : World) → MayAllHappen w (before ++ after) → MayAllHappen w before
@@ -66,7 +69,13 @@ module _ (es : List Event) (may : MayAllHappen empty_world es) where
     acknowledged = λ before mid after e is clean. acknowledged_stays_in_view before mid e (front_may (before ++ e ∷ mid) after is) clean;
     together = λ before after is clean. (runs_come_together before (front_may before after is) clean).0;
     rings = λ before after is clean. (runs_come_together before (front_may before after is) clean).1;
-    undamaged = λ before after e is clean. let t = no_damage (behind before) e (sound_behind before (e ∷ after) is clean) (line_may before after e is) in (t.0, t.1.0, t.1.1);
+    cycles = λ before after is clean. cycles_end (behind before) (sound_behind before after is clean);
+    normal = λ before after is clean. all_normal (behind before) (sound_behind before after is clean);
+    stays_normal = λ before after e is clean. leaves_all_normal (behind before) e (sound_behind before (e ∷ after) is clean) (line_may before after e is);
+    undamaged = λ before after e is clean.
+        let sound = sound_behind before (e ∷ after) is clean in
+        let t = no_damage (behind before) e sound (line_may before after e is) in
+        (none_is_quarantined (behind before) e sound, t.0, t.1.0, t.1.1);
     young = λ before after e is clean covered. never_too_old (behind before) e (sound_behind before (e ∷ after) is clean) (line_may before after e is) covered;
     begins_covered = nothing_collected;
     stays_covered = λ before after e is clean. stays_covered (behind before) e (sound_behind before (e ∷ after) is clean) (line_may before after e is);

@@ -1,6 +1,10 @@
 pub mod Naming
 pub mod Following
 pub mod Typing
+pub mod NormalControllers
+pub mod WholeCycles
+pub mod OpenRefusals
+pub mod OpenAnswers
 pub mod Claimed
 pub mod Throughout
 pub mod WholeRows

@@ -22,7 +22,7 @@ use Rattle.adr_model.specs.Write.{write_meant}
 use Rattle.adr_law_recorded.specs.Typed.{IsTypedValue, AreTypedValues, IsTypedWrite, IsTyped, AreTyped}
 use Rattle.adr_answers.specs.Laws.{IsWholeReference}
 use Rattle.adr_law_headline.specs.Formed.{HasTypedNumbers, AreAllTyped, AreSupported}
-use Rattle.adr_law_headline.specs.Printable.{AreWholeValues, IsWholeWrite, WritesSo, AreWhole}
+use Rattle.adr_law_headline.specs.Printable.{AreWholeValues, IsWholeWrite, WritesSo, WriteWhole}
 
 -- ---- values
 
@@ -128,7 +128,7 @@ event_whole (events.Write name what) (line, (verb, (to, behind))) = write_whole 
 event_whole _ allowed = tt
 
 -- what may follow from the beginning on is whole
-pub following_whole : (es : List Event) → IsFollowing nothing_seen es → AreWhole es
+pub following_whole : (es : List Event) → IsFollowing nothing_seen es → WriteWhole es
 following_whole es follow = all_so (WritesSo IsWholeWrite) event_whole es nothing_seen follow
 
 -- ---- what the program does

@@ -19,7 +19,6 @@ use Rattle.adr_model.specs.Write.{Write, AddObject, Modify, Rename, Delete, AddL
 use Rattle.adr_model.proofs.Members.{of_filter, found_member, of_filter_map, mapped_member}
 use Rattle.adr_model.proofs.Nodes.{IsNodeOf, is_node_of}
 use Rattle.adr_law_knowledge.proofs.Winners.{is_won, of_winners}
-use Rattle.adr_answers.specs.Laws.{IsWholeReference}
 use Rattle.adr_law_headline.specs.Printable.{IsWholeRow, IsWholeSaid, IsWholeWrite}
 
 -- ---- nodes

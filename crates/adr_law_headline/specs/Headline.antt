@@ -15,6 +15,8 @@ use Rattle.adr_law_convergence.specs.Rounds.{ComeTogether, RingsTell}
 use Rattle.adr_law_headline.specs.Throughout.{HoldsBehind, HoldsThroughout, HoldsOfEachLine}
 use Rattle.adr_law_headline.specs.Formed.{AreFormedThroughout}
 use Rattle.adr_law_headline.specs.Printable.{ArePrintableThroughout}
+use Rattle.adr_law_headline.specs.Modes.{AreNormal, LeavesAllNormal}
+use Rattle.adr_law_headline.specs.Cycles.{CyclesEnd}
 use Rattle.adr_law_headline.specs.Refused.{FindsNoDamage, FindsNobodyTooOld, LeavesAllCovered}
 
 -- a controller that is up answers a `show` by the directory of what it has in view, and nothing changes
@@ -26,9 +28,12 @@ AnswerByTheirView w =
 -- is up answers by the directory of the issued updates that it covers or holds, and that of the rows which it holds is the same;
 -- controllers that cover the same, and hold nothing beyond, show the same; and every write that was acknowledged so far is among
 -- what is in view for whoever has its identifier, each row of it. Lines that are whole cycles, in rounds over connections, bring
--- together whom they connect, and a `ring` line that is answered ok tells so. No line's answer is that a controller was put back,
--- or that an item is broken or incomplete, and none is that someone is too old while everyone covers what was collected:
--- everyone does at the beginning, and then as long as each line keeps it so
+-- together whom they connect, and a `ring` line that is answered ok tells so. A cycle with nothing in its way, where no limit is
+-- met, leaves its destination everything that the source held, or says that there is more; it is whole where the source has no more
+-- units beyond the mark than a cycle may take replies. No controller is quarantined, neither here nor in a clean world on the way
+-- of the next line: neither what a crash would leave of it nor what a start would find. No line's answer is that a controller is
+-- quarantined or was put back, or that an item is broken or incomplete, and none is that someone is too old while everyone covers
+-- what was collected: everyone does at the beginning, and then as long as each line keeps it so
 pub record Headline (es : List Event) : Type 0 where
   pub clean : (before after : List Event) → es ≡ before ++ after → PutsNothingBack before → (behind before).clean ≡ true
   pub answered : HoldsThroughout es AnswerByTheirView
@@ -37,6 +42,9 @@ pub record Headline (es : List Event) : Type 0 where
   pub acknowledged : (before mid after : List Event) (e : Event) → es ≡ before ++ e ∷ mid ++ after → (behind (before ++ e ∷ mid)).clean ≡ true → StaysInView before e mid
   pub together : HoldsBehind es ComeTogether
   pub rings : HoldsThroughout es RingsTell
+  pub cycles : HoldsThroughout es CyclesEnd
+  pub normal : HoldsThroughout es AreNormal
+  pub stays_normal : HoldsOfEachLine es LeavesAllNormal
   pub undamaged : HoldsOfEachLine es FindsNoDamage
   pub young : HoldsOfEachLine es FindsNobodyTooOld
   pub begins_covered : IsPurgedCovered empty_world

@@ -38,8 +38,8 @@ abbrev pub WritesSo : (Write → Type 0) → Event → Type 0
 WritesSo Q e = IfSome (write_of empty_world e) (λ (w : ClientWrite). Q w.what)
 
 -- what each of the events writes is whole
-abbrev pub AreWhole : List Event → Type 0
-AreWhole es = Each (WritesSo IsWholeWrite) es
+abbrev pub WriteWhole : List Event → Type 0
+WriteWhole es = Each (WritesSo IsWholeWrite) es
 
 -- ---- rows
 
@@ -71,7 +71,7 @@ ArePrintableThroughout es = HoldsAlways es ShowPrintable
 
 -- every run is so of events that the program does, and that write what is whole
 abbrev pub RunsAre : (List Event → Type 0) → Type 0
-RunsAre AreSo = (es : List Event) → MayAllHappen empty_world es → AreSupported es → AreAllTyped es → AreWhole es → AreSo es
+RunsAre AreSo = (es : List Event) → MayAllHappen empty_world es → AreSupported es → AreAllTyped es → WriteWhole es → AreSo es
 
 abbrev pub RunsArePrintable : Type 0
 RunsArePrintable = RunsAre ArePrintableThroughout

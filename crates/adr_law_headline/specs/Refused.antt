@@ -5,9 +5,9 @@ use Rattle.adr_model.specs.World.{World}
 use Rattle.adr_model.specs.Step.{step}
 use Rattle.adr_model.specs.Convergence.{IsOnTheWay, NoneRefused, IsPurgedCovered, KeepsCovered}
 
--- no answer to the line is that a controller was put back, or that an item is broken or incomplete
+-- no answer to the line is that a controller is quarantined or was put back, or that an item is broken or incomplete
 abbrev pub FindsNoDamage : World → Event → Type 0
-FindsNoDamage w e = NoneRefused 33 (step w e).1 × NoneRefused 43 (step w e).1 × NoneRefused 44 (step w e).1
+FindsNoDamage w e = NoneRefused 23 (step w e).1 × NoneRefused 33 (step w e).1 × NoneRefused 43 (step w e).1 × NoneRefused 44 (step w e).1
 
 -- while everyone covers what was collected, no answer to the line is that someone is too old
 abbrev pub FindsNobodyTooOld : World → Event → Type 0

@@ -15,7 +15,7 @@ ghost use Rattle.adr_model.specs.Convergence.{MayAllHappen};
 ghost use Rattle.adr_model.specs.World.{empty_world};
 ghost use Rattle.adr_schedule.specs.Seen.{IsFollowing, nothing_seen};
 ghost use Rattle.adr_law_headline.specs.Formed.{AreAllTyped, AreSupported, RunsAreFormed};
-ghost use Rattle.adr_law_headline.specs.Printable.{AreWhole, RunsArePrintable};
+ghost use Rattle.adr_law_headline.specs.Printable.{RunsArePrintable, WriteWhole};
 ghost use Rattle.adr_law_headline.specs.Headline.{Headline, IsHeadline};
 
 pub use exported::{
@@ -46,7 +46,7 @@ pub fn lines_are_supported()
 /// What lines say is whole: also the bytes of identifiers are in range.
 #[tactic(auto, using(crate::proofs::Typing::following_whole))]
 pub fn lines_are_whole()
-    ensures { (events : List Event) → IsFollowing nothing_seen events → AreWhole events }
+    ensures { (events : List Event) → IsFollowing nothing_seen events → WriteWhole events }
 {}
 
 /// The theorem holds of every run of events that may happen, upgrades and revivals among them.

@@ -1,6 +1,5 @@
 -- What a state of a log asks and answers has the form of its bytes, and a reply of the form is one that is taken.
 use Rattle.std.proofs.Common.{◌≡◌, ℕ, ◌<◌, ◌≤◌, Bool, true, false, leb, List, [], ◌∷◌, length, map, Option, Some, None, unwrap_or, Result, Ok, ◌==◌, cond, refl, sym, ap, subst, ◌∙◌, inl, inr, ⊎_elim, arith}
-use Rattle.std.specs.Prelude.{◌⊎◌}
 use Rattle.std.specs.Bool.{then_some}
 use Rattle.std.specs.BTreeMap.{is_at}
 use Rattle.std.specs.List.{AllByRecursion}
@@ -43,7 +42,6 @@ use Rattle.adr_law_calls.proofs.TakenFollow.{nothing_is_vector}
 use Rattle.adr_image.specs.Body.{Body}
 use Rattle.adr_image.specs.Changes.{HasBody, change_of, item_of as item_said, written_of}
 use Rattle.adr_image.specs.Stored.{IsSpelledRow}
-use Rattle.adr_image.proofs.InRange as image
 use Rattle.adr_packet.specs.Parts.{IsItem, one_item}
 use Rattle.adr_packet.specs.Requests.{IsRequest}
 use Rattle.adr_packet.specs.Replies.{IsReply}
@@ -57,19 +55,21 @@ use Rattle.adr_law_recorded.proofs.Taken.{no_times_brought}
 
 -- ---- what is asked
 
+schema_in_range : (s : State) → IsLogged s → IsU32 s.store.schema
+schema_in_range s logged = let is = logged.spelled.schema in omega (arith, is)
+
 pub asked_formed : (s : State) (partner : Identifier) (max : ℕ) → IsLogged s → IsId partner → 1 ≤ max → IsU32 max → IsRequest (ask s partner max 1)
 asked_formed s partner max logged id some few =
-    let parts = image.in_range s.store logged.formed.store logged.spelled in
     record {
       version = refl;
       dest = logged.dsa;
       source = id;
       inv = kept (λ (k : PartnerMark). IsId k.inv) refl (λ k m. (logged.spelled.marks k m).1.0);
       mark = kept (λ (k : PartnerMark). IsMark k.mark) no_mark_in_range (λ k m. (logged.spelled.marks k m).1.1);
-      schema = parts.schema.0;
+      schema = schema_in_range s logged;
       some = some;
       max = few;
-      vector = parts.vector;
+      vector = (logged.formed.store.vector, logged.spelled.vector);
     }
   where
     kept : (P : PartnerMark → Type 0) → P (record { inv = identifier 0; mark = no_mark }) → Each (λ (k : Identifier × PartnerMark). P k.1) s.store.marks → P (kept_of s.store partner)
@@ -191,7 +191,7 @@ module _ (s : State) (q : Request) (now : ℕ) (logged : IsLogged s) (asked : Is
     inv = ranged.inv;
     from = (from_in_range, in_order (begins_at s q) (answer.began s q now logged.formed says none));
     to = (ranged.to, in_order (reply_to s q now).to spelled.to);
-    schema = (image.in_range s.store logged.formed.store logged.spelled).schema.0;
+    schema = schema_in_range s logged;
     asked = asked.vector;
     last = last_formed (length (answer.sent s q now logged.formed says none) == length (candidates s.store.rows (begins_at s q) q.vector));
     times = ranged.times;

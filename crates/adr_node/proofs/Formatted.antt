@@ -22,14 +22,14 @@ use Rattle.adr_node.specs.Makes.{BeforeOrBegun, Begins}
 use Rattle.adr_node.specs.declared.ended.Refusal.TheVariants.{NotEmpty, Image, Adoption, Full}
 use Rattle.adr_node.specs.declared.making.Unmade.{Unmade}
 use Rattle.adr_node.specs.declared.making.Unmade.TheVariants as unmade
-use Rattle.adr_node.proofs.Mirrored.{as_before_over, as_before_twice, leaves_over}
+use Rattle.adr_node.proofs.Mirrored.{as_before_over, as_before_twice, as_over, leaves_over}
 
 -- what is told may be weakened
 pub if_weaker : {A : Type 0} (o : Option A) (P Q : A → Type 0) → ((x : A) → P x → Q x) → IfSome o P → IfSome o Q
 if_weaker None P Q f p = tt
 if_weaker (Some x) P Q f p = f x p
 
-stands_so : (o : Option (Started State)) (left : Started State → Type 0) (f : Found State) → IfSome o (λ t. t ≡ Ok f) → (IsSome o → Among (λ t. t ≡ Ok f) left)
+pub stands_so : (o : Option (Started State)) (left : Started State → Type 0) (f : Found State) → IfSome o (λ t. t ≡ Ok f) → (IsSome o → Among (λ t. t ≡ Ok f) left)
     → IfSome o (λ t. (t ≡ Ok f) × Among (λ t. t ≡ Ok f) left)
 stands_so None left f told among = tt
 stands_so (Some t) left f told among = (told, among refl)
@@ -81,12 +81,7 @@ module _ {K T : Type 0} (k : KeeperGhosts K) (s : State) (old : K) where
 
 module _ {D E T : Type 0} (d : Seen D) (e : Seen E) (s : State) (old new : D) (from to : E) (first : Mirrors d old e from) (last : Mirrors e to d new) where
   ends_over : (how : Result T Unmade) → EndsFormat e s from to how → EndsFormat d s old new how
-  ends_over (Ok done) ends =
-      let f = found s (new_log s) in (
-        ends.0,
-        subst (λ (o : Option (Started State)). IfSome o (λ t. (t ≡ Ok f) × Among (λ t. t ≡ Ok f) (d.may_leave new))) (sym last.told)
-            (if_weaker (e.told to) _ _ (λ t is. (is.0, λ g left. is.1 g (last.left g left))) ends.1),
-      )
+  ends_over (Ok done) ends = (ends.0, as_over d e old new from to first last (Ok (found s (new_log s))) ends.1)
   ends_over (Err (unmade.Refused Full)) ends = (ends.0, as_before_over d e old new from to first last ends.1)
   ends_over (Err (unmade.Refused NotEmpty)) ends = ends
   ends_over (Err (unmade.Refused (Image why))) ends = ends
@@ -156,7 +151,7 @@ module _ {D : Type 0} (d : DiskGhosts D) (only_now : (disk : D) (bytes : List �
   pub synced_as_before : (old new : D) → d.content new ≡ d.content old → Elapses (d.moment old) (d.moment new) (d.left_since old) (d.left_since new) (d.may_leave old)
       → Among (d.may_leave old) (d.may_leave new) → FindsAsBefore (of_disk d) old new
   synced_as_before old new same time left = record {
-    told = ap (option_map (start_of front_at area_at following_in)) same;
+    stays = (same, ap (option_map (start_of front_at area_at following_in)) same);
     any_moment = synced_leaves old new time;
     left = is_left d old new left;
   }

@@ -1,18 +1,18 @@
 -- What a start, or a refused one, leaves of a keeper, and what a command then is that looks at it.
-use Rattle.std.proofs.Common.{◌≡◌, ◌⊎◌, ◌<◌, ◌≤◌, ◌↔◌, inl, inr, ⊎_elim, refl, sym, ap, ◌∙◌, subst, ℕ, List, Bool, true, false, Option, None, Some, IfOk, IfSome, IsSome, Ok, Err}
+use Rattle.std.proofs.Common.{◌≡◌, ◌⊎◌, ◌<◌, ◌≤◌, ◌↔◌, inl, inr, ⊎_elim, refl, sym, ap, ◌∙◌, subst, ℕ, List, Bool, true, false, Option, None, Some, IfOk, IfSome, IsSome, Ok, Err, arith}
 use Rattle.adr_disk.specs.Disk.{Among, LeavesOnly}
 use Rattle.adr_io.specs.declared.Fault.{Fault}
 use Rattle.adr_io.specs.declared.Fault.TheVariants.{Failed, NoMemory}
 use Rattle.adr_io.specs.declared.Sink.{Ghosts as SinkGhosts}
 use Rattle.adr_model.specs.Store.{State}
 use Rattle.adr_law_journal.specs.Areas.{Found, Started, found}
-use Rattle.adr_journal.specs.Ended.{IsDamageOf, StillReads}
+use Rattle.adr_journal.specs.Ended.{IsDamageOf, ReadsOnly, StillReads}
 use Rattle.adr_journal.specs.declared.keeper.Keeper.{Ghosts as KeeperGhosts}
 use Rattle.adr_journal.specs.declared.keeper.StartRefusal.{StartRefusal}
 use Rattle.adr_journal.specs.declared.keeper.StartRefusal.TheVariants as starts
 use Rattle.adr_records.specs.Logged.{IsLogged}
 use Rattle.adr_controller.specs.Running.{IsInOrder, Running}
-use Rattle.adr_node.specs.Seen.{Seen, of_keeper}
+use Rattle.adr_node.specs.Seen.{Seen, StandsAs, Stays, of_keeper}
 use Rattle.adr_node.specs.Begins.{Begun, IsDamaged, IsHindered, IsUnbegun, TellsDamage, TellsRefusal}
 use Rattle.adr_node.specs.Lines.{damaged_line}
 use Rattle.adr_node.specs.Looks.{Looks, Tells, IsWhole, due_of, unseen}
@@ -20,6 +20,7 @@ use Rattle.adr_node.specs.declared.ended.Looked.{Looked}
 use Rattle.adr_node.specs.declared.ended.Looked.TheVariants as backed
 use Rattle.adr_node.specs.declared.ended.Unbegun.{Unbegun}
 use Rattle.adr_node.specs.declared.ended.Unbegun.TheVariants as unbegun
+use Rattle.adr_node.proofs.Formatted.{stands_so}
 use Rattle.adr_node.proofs.Writes.{all_added, no_fewer, tells_disk_fault, tells_no_memory}
 
 pub same_told : {T : Type 0} (a b : Option T) (t : T) → (IsSome b ↔ IsSome a) → IfSome a (λ x. x ≡ t) → IfSome b (λ x. x ≡ t) → b ≡ a
@@ -27,6 +28,17 @@ same_told None None t both was is = refl
 same_told None (Some y) t both was is = absurd (cc (both.0 refl))
 same_told (Some x) None t both was is = absurd (cc (both.1 refl))
 same_told {T} (Some x) (Some y) t both was is = ap (λ (z : T). let o : Option T = Some z in o) (is ∙ sym was)
+
+-- what is read alone, of which this is told
+only_so : (told : Option (Started State)) (left : Started State → Type 0) (this : Started State) → IfSome told (λ t. t ≡ this) → IfSome told (λ there. Among (λ f. f ≡ there) left)
+    → IfSome told (λ t. (t ≡ this) × Among (λ f. f ≡ this) left)
+only_so None left this is only = tt
+only_so (Some t) left this is only = (is, λ f may. only f may ∙ is)
+
+pub reads_so : {D : Type 0} (d : Seen D) (old new : D) (this : Started State) → IfSome (d.told old) (λ t. t ≡ this) → ReadsOnly d.told d.may_leave old new → StandsAs d this new
+reads_so d old new this is still =
+    subst (λ (o : Option (Started State)). IfSome o (λ t. (t ≡ this) × Among (λ f. f ≡ this) (d.may_leave new))) (sym still.0)
+    (only_so (d.told old) (d.may_leave new) this is still.1)
 
 -- what is there, where it is told
 pub there_is : (o : Option (Started State)) → (t : Started State) × IfSome o (λ x. x ≡ t)
@@ -38,11 +50,11 @@ there_is (Some x) = (x, refl)
 -- a call of the disk failed, or memory was wanting
 abbrev pub Wants : {D : Type 0} → Seen D → D → D → Unbegun → Type 0
 Wants d old new why =
-    ((why ≡ unbegun.DiskFault) × (d.faults old < d.faults new)) ⊎ ((why ≡ unbegun.NoMemory) × (d.told new ≡ d.told old))
+    ((why ≡ unbegun.DiskFault) × (d.faults old < d.faults new)) ⊎ ((why ≡ unbegun.NoMemory) × Stays d old new)
 
 -- by the fault of a call
 pub wants_by : {D : Type 0} (d : Seen D) (old new : D) (fault : Fault) (why : Unbegun) → (fault ≡ Failed → why ≡ unbegun.DiskFault) → (fault ≡ NoMemory → why ≡ unbegun.NoMemory)
-    → (fault ≡ Failed → d.faults old < d.faults new) → d.told new ≡ d.told old → Wants d old new why
+    → (fault ≡ Failed → d.faults old < d.faults new) → Stays d old new → Wants d old new why
 wants_by d old new Failed why failed wanting rose same = inl (failed refl, rose refl)
 wants_by d old new NoMemory why failed wanting rose same = inr (wanting refl, same)
 
@@ -60,6 +72,7 @@ wanting d k old new before after why wants later told moments left silent = reco
   still_told = told;
   any_moment = moments;
   write_fault = λ is. ⊎_elim (λ w. absurd (cc (sym w.0 ∙ is))) (λ w. absurd (cc (sym w.0 ∙ is))) wants;
+  write_ends = λ rose. let same : k.faults after ≡ k.faults before = ap k.faults silent in absurd (omega (arith, rose, same));
   disk_fault = λ is. ⊎_elim (λ w. w.1) (λ w. absurd (cc (sym w.0 ∙ is))) wants;
   sink_later = no_fewer k before after silent;
   disk_later = later;
@@ -67,30 +80,35 @@ wanting d k old new before after why wants later told moments left silent = reco
 
 -- a start that was refused
 module _ {K S : Type 0} (k : KeeperGhosts K) (sink : SinkGhosts S) (old new : K) (before after : S) (why : Unbegun) where
+  bytes_stay : (refusal : StartRefusal) → (refusal ≡ starts.DiskFault → ⊥) → (refusal ≡ starts.DiskFault) ⊎ (k.content new ≡ k.content old) → k.content new ≡ k.content old
+  bytes_stay refusal passed unwritten = ⊎_elim (λ is. absurd (passed is)) (λ same. same) unwritten
+
   pub refused_unbegun : (refusal : StartRefusal) → IsDamageOf refusal (k.told old) → (refusal ≡ starts.DiskFault → k.faults old < k.faults new)
-      → StillReads k.told k.may_leave k.moment k.left_since refusal old new → k.faults old ≤ k.faults new → (IsSome (k.told old) → IsSome (k.told new))
+      → StillReads k.told k.may_leave k.moment k.left_since refusal old new → (refusal ≡ starts.DiskFault) ⊎ (k.content new ≡ k.content old) → k.faults old ≤ k.faults new → (IsSome (k.told old) → IsSome (k.told new))
       → LeavesOnly k.moment k.left_since old new (k.may_leave old) → Among (k.may_leave old) (k.may_leave new)
-      → TellsRefusal sink refusal before after why → (why ≡ unbegun.WriteFault → sink.faults before < sink.faults after) → sink.faults before ≤ sink.faults after
+      → TellsRefusal sink refusal before after why → (why ≡ unbegun.WriteFault → sink.faults before < sink.faults after)
+      → (sink.faults before < sink.faults after → why ≡ unbegun.WriteFault) → sink.faults before ≤ sink.faults after
       → IsUnbegun (of_keeper k) sink old new before after why
-  refused_unbegun starts.DiskFault damaged fault still later told moments left tells write sink_later =
+  refused_unbegun starts.DiskFault damaged fault still unwritten later told moments left tells write ends sink_later =
       wanting (of_keeper k) sink old new before after why (inl (tells.0, fault refl)) later told moments left tells.1
-  refused_unbegun (starts.Damaged place) damaged fault still later told moments left tells write sink_later =
+  refused_unbegun (starts.Damaged place) damaged fault still unwritten later told moments left tells write ends sink_later =
       let there : Started State = Err place in
       record {
         found = there;
         is_found = damaged;
-        ends = (inr (tells, still.0), left);
+        ends = (inr (tells, (bytes_stay (starts.Damaged place) (λ is. cc is) unwritten, still.0), reads_so (of_keeper k) old new there damaged still), left);
         still_told = told;
         any_moment = moments;
         write_fault = write;
+        write_ends = ends;
         disk_fault = λ is. absurd (subst (λ (w : Unbegun). TellsDamage sink place before after w) is tells);
         sink_later = sink_later;
         disk_later = later;
       }
-  refused_unbegun (starts.NoMemory true) damaged fault still later told moments left tells write sink_later =
-      wanting (of_keeper k) sink old new before after why (inr (tells.0, still.0)) later told moments left tells.1
-  refused_unbegun (starts.NoMemory false) damaged fault still later told moments left tells write sink_later =
-      wanting (of_keeper k) sink old new before after why (inr (tells.0, still.content_stays)) later told moments left tells.1
+  refused_unbegun (starts.NoMemory true) damaged fault still unwritten later told moments left tells write ends sink_later =
+      wanting (of_keeper k) sink old new before after why (inr (tells.0, (bytes_stay (starts.NoMemory true) (λ is. cc is) unwritten, still.0))) later told moments left tells.1
+  refused_unbegun (starts.NoMemory false) damaged fault still unwritten later told moments left tells write ends sink_later =
+      wanting (of_keeper k) sink old new before after why (inr (tells.0, (bytes_stay (starts.NoMemory false) (λ is. cc is) unwritten, still.content_stays))) later told moments left tells.1
 
 -- ---- what a command then is that only looks
 
@@ -136,11 +154,18 @@ module _ {D K : Type 0} (d : Seen D) (k : SinkGhosts K) (refuses : State → Boo
   silent_unseen (Err place) why (inr h) is = absurd (subst (λ (w : Unbegun). TellsDamage k place before after w) is h.0)
 
   stays_unseen : (there : Started State) (why : Unbegun) → IsHindered d old new before after why ⊎ IsDamaged d k there old new before after why → (unseen why ≡ backed.DiskFault → ⊥)
-      → d.told new ≡ d.told old
+      → Stays d old new
   stays_unseen there why (inl (inl fault, silent)) passed = absurd (passed (ap unseen fault))
   stays_unseen there why (inl (inr wants, silent)) passed = wants.1
   stays_unseen (Ok f) why (inr h) passed = absurd h
   stays_unseen (Err place) why (inr h) passed = h.1
+
+  durable_unseen : (there : Started State) (why : Unbegun) → IsHindered d old new before after why ⊎ IsDamaged d k there old new before after why
+      → StandsAs d there new ⊎ (((unseen why ≡ backed.DiskFault) ⊎ (unseen why ≡ backed.NoMemory)) × (after ≡ before))
+  durable_unseen there why (inl (inl fault, silent)) = inr (inl (ap unseen fault), silent)
+  durable_unseen there why (inl (inr wants, silent)) = inr (inr (ap unseen wants.0), silent)
+  durable_unseen (Ok f) why (inr h) = absurd h
+  durable_unseen (Err place) why (inr h) = inl h.2
 
   pub unbegun_looks : (why : Unbegun) → IsUnbegun d k old new before after why → Looks d k (due_of refuses bytes) old new before after (unseen why)
   unbegun_looks why u = record {
@@ -151,6 +176,7 @@ module _ {D K : Type 0} (d : Seen D) (k : SinkGhosts K) (refuses : State → Boo
     disk_fault = λ is. let fault = fault_unseen why is in (u.disk_fault fault, silent_unseen u.found why u.ends.0 fault);
     later = u.disk_later;
     stays = stays_unseen u.found why u.ends.0;
+    durable = durable_unseen u.found why u.ends.0;
     still_told = u.still_told;
     any_moment = u.any_moment;
     left = u.ends.1;
@@ -159,12 +185,14 @@ module _ {D K : Type 0} (d : Seen D) (k : SinkGhosts K) (refuses : State → Boo
 -- one that began with a controller
 module _ {K S : Type 0} (k : KeeperGhosts K) (sink : SinkGhosts S) (refuses : State → Bool) (bytes : State → List ℕ) where
   pub started_looks : (law : (x : K) (f : Found State) → k.is_at x f → k.is_failed x ≡ false → IfSome (k.told x) (λ t. t ≡ Ok f))
+      → (left_law : (x : K) (f : Found State) (t : Started State) → k.is_at x f → k.is_failed x ≡ false → IsSome (k.told x) → k.may_leave x t → t ≡ Ok f)
       → (old : K) (c : Running K) (before after : S) (how : Looked) (b : Begun k old c) → IsInOrder k c
       → Tells sink (due_of refuses bytes (Ok (found b.started.state b.started.log))) before after how → IsLogged b.started.state → (how ≡ backed.DiskFault → ⊥)
       → Looks (of_keeper k) sink (due_of refuses bytes) old c.keeper before after how
-  started_looks law old c before after how b order tells logged passed =
+  started_looks law left_law old c before after how b order tells logged passed =
       let at : Found State = found b.started.state b.started.log in
       let there : Started State = Ok at in
+      let up : k.is_failed c.keeper ≡ false = (order.up b.started.state b.started.in_memory).0.running in
       record {
         found = there;
         is_found = b.started.told;
@@ -172,7 +200,8 @@ module _ {K S : Type 0} (k : KeeperGhosts K) (sink : SinkGhosts S) (refuses : St
         tells = tells;
         disk_fault = λ is. absurd (passed is);
         later = b.later;
-        stays = λ no_fault. same_told (k.told old) (k.told c.keeper) there b.told b.started.told (law c.keeper at b.started.at (order.up b.started.state b.started.in_memory).0.running);
+        stays = λ no_fault. (b.unwritten, same_told (k.told old) (k.told c.keeper) there b.told b.started.told (law c.keeper at b.started.at up));
+        durable = inl (stands_so (k.told c.keeper) (k.may_leave c.keeper) at (law c.keeper at b.started.at up) (λ told t may. left_law c.keeper at t b.started.at up told may));
         still_told = b.told.1;
         any_moment = b.any_moment;
         left = b.left;

@@ -11,7 +11,7 @@ use Rattle.adr_journal.specs.declared.keeper.StartRefusal.{StartRefusal}
 use Rattle.adr_journal.specs.declared.keeper.StartRefusal.TheVariants as starts
 use Rattle.adr_controller.specs.Running.{IsStarted, Running}
 use Rattle.adr_node.specs.Lines.{damaged_line}
-use Rattle.adr_node.specs.Seen.{Seen, Mirrors, of_keeper}
+use Rattle.adr_node.specs.Seen.{Seen, Mirrors, StandsAs, Stays, of_keeper}
 use Rattle.adr_node.specs.declared.ended.Unbegun.{Unbegun}
 use Rattle.adr_node.specs.declared.ended.Unbegun.TheVariants as unbegun
 
@@ -21,9 +21,10 @@ StandsOn d disk f = IfSome (d.told disk) (λ t. (t ≡ Ok f) × Among (FindsStat
 
 -- ---- it is started
 
--- a controller was started from a keeper, of which a crash leaves what it might have left before
+-- a controller was started from a keeper, whose bytes stay, and of which a crash leaves what it might have left before
 pub record Begun {K : Type 0} (k : KeeperGhosts K) (keeper : K) (c : Running K) : Type 0 where
   pub started : IsStarted k keeper c
+  pub unwritten : k.content c.keeper ≡ k.content keeper
   pub told : IsSome (k.told c.keeper) ↔ IsSome (k.told keeper)
   pub later : k.faults keeper ≤ k.faults c.keeper
   pub any_moment : LeavesOnly k.moment k.left_since keeper c.keeper (k.may_leave keeper)
@@ -54,12 +55,13 @@ TellsRefusal k (starts.NoMemory settled) before after why = (why ≡ unbegun.NoM
 -- a call of the disk failed, or memory was wanting, and nothing was written
 abbrev pub IsHindered : {D S : Type 0} → Seen D → D → D → S → S → Unbegun → Type 0
 IsHindered d old new before after why =
-    ((why ≡ unbegun.DiskFault) ⊎ ((why ≡ unbegun.NoMemory) × (d.told new ≡ d.told old))) × (after ≡ before)
+    ((why ≡ unbegun.DiskFault) ⊎ ((why ≡ unbegun.NoMemory) × Stays d old new)) × (after ≡ before)
 
--- or what a start finds is damage, which is told
+-- or what a start finds is damage, also behind a crash, and that is told
 abbrev pub IsDamaged : {D S : Type 0} → Seen D → SinkGhosts S → Started State → D → D → S → S → Unbegun → Type 0
 IsDamaged d k (Ok f) old new before after why = ⊥
-IsDamaged d k (Err place) old new before after why = TellsDamage k place before after why × (d.told new ≡ d.told old)
+IsDamaged d k (Err place) old new before after why =
+    TellsDamage k place before after why × Stays d old new × StandsAs d (Err place) new
 
 -- one or the other, and a crash leaves what it might have left before
 abbrev pub EndsUnbegun : {D S : Type 0} → Seen D → SinkGhosts S → Started State → D → D → S → S → Unbegun → Type 0
@@ -81,3 +83,5 @@ pub record IsUnbegun {D S : Type 0} (d : Seen D) (k : SinkGhosts S) (old new : D
   pub disk_fault : why ≡ unbegun.DiskFault → d.faults old < d.faults new
   pub sink_later : k.faults before ≤ k.faults after
   pub disk_later : d.faults old ≤ d.faults new
+  -- a line that couldn't be written is told so
+  pub write_ends : k.faults before < k.faults after → why ≡ unbegun.WriteFault

@@ -1,5 +1,5 @@
 -- What a command does that only looks at the controller on a disk, and writes something of it.
-use Rattle.std.specs.Prelude.{◌≡◌, ◌<◌, ◌≤◌, ℕ, List, ◌++◌, Bool, false, codes, if◌then◌else◌, Some, None, Option, Ok, Err, IfOk, IfSome, IsSome}
+use Rattle.std.specs.Prelude.{◌≡◌, ◌⊎◌, ◌<◌, ◌≤◌, ℕ, List, ◌++◌, Bool, false, codes, if◌then◌else◌, Some, None, Option, Ok, Err, IfOk, IfSome, IsSome}
 use Rattle.adr_io.specs.Told.{Adds, AddsFront}
 use Rattle.adr_io.specs.declared.Sink.{Ghosts as SinkGhosts}
 use Rattle.adr_disk.specs.Disk.{Among, LeavesOnly}
@@ -17,7 +17,7 @@ use Rattle.adr_answers.specs.Laws.{shown}
 use Rattle.adr_json.specs.Text.{json_text}
 use Rattle.adr_node.specs.Lines.{damaged_line, refusal_line}
 use Rattle.adr_node.specs.Begins.{Begun}
-use Rattle.adr_node.specs.Seen.{Seen, of_keeper}
+use Rattle.adr_node.specs.Seen.{Seen, StandsAs, Stays, of_keeper}
 use Rattle.adr_node.specs.declared.ended.Unbegun.{Unbegun}
 use Rattle.adr_node.specs.declared.ended.Unbegun.TheVariants as unbegun
 use Rattle.adr_node.specs.declared.ended.Looked.{Looked}
@@ -112,8 +112,11 @@ pub record Looks {D K : Type 0} (d : Seen D) (k : SinkGhosts K) (due : Started S
   -- behind a fault of the disk nothing is
   pub disk_fault : how ≡ backed.DiskFault → (d.faults old < d.faults new) × (after ≡ before)
   pub later : d.faults old ≤ d.faults new
-  -- but for such a fault, a start finds afterwards what it found
-  pub stays : (how ≡ backed.DiskFault → ⊥) → d.told new ≡ d.told old
+  -- but for such a fault, the bytes are afterwards what they were, and a start finds what it found
+  pub stays : (how ≡ backed.DiskFault → ⊥) → Stays d old new
+  -- What was found is found behind a crash from then on. Else a call of the disk failed or memory was wanting, and nothing was
+  -- written.
+  pub durable : StandsAs d found new ⊎ (((how ≡ backed.DiskFault) ⊎ (how ≡ backed.NoMemory)) × (after ≡ before))
   -- and a disk that tells what a start finds goes on telling it
   pub still_told : IsSome (d.told old) → IsSome (d.told new)
   -- and behind a crash at any moment of the command, or from then on, nothing that it might not have found before

@@ -167,6 +167,10 @@ IsVerdict d comes old (Err Full) = HasNone d old × ((s : State) × comes (Ok s)
 IsVerdict d comes old (Err (Image why)) = HasNone d old × comes (Err (Image why))
 IsVerdict d comes old (Err (Adoption why)) = HasNone d old × comes (Err (Adoption why))
 
+-- That the disk has nothing was seen before all else. So where it has bytes, or the verdict says so, nothing was taken.
+abbrev pub SeesFirst : {D : Type 0} → DiskGhosts D → Type 0 → D → Option Verdict → Type 0
+SeesFirst d untaken old verdict = (HasNone d old × (verdict ≡ Some (Err NotEmpty) → ⊥)) ⊎ untaken
+
 -- what was written of a verdict, if there is one, and how that ended
 abbrev pub TellsVerdict : {K : Type 0} → SinkGhosts K → List ℕ → List ℕ → Option Verdict → K → K → Creation → Type 0
 TellsVerdict k verb name None before after how = (after ≡ before) × (IsWritten how → ⊥) × (how ≡ installs.WriteFault → ⊥)
@@ -188,7 +192,8 @@ pub record Begins {D : Type 0} (d : Seen D) (begun : Option State) (old new : D)
   pub any_moment : IfSome (d.told old) (λ _. LeavesOnly d.moment d.left_since old new (BeforeOrBegun d old begun))
   pub left : IfSome (d.told old) (λ _. Among (BeforeOrBegun d old begun) (d.may_leave new))
 
--- what a refusal leaves: the disk as it was, or, since a log that would be too long is refused behind a sync, what a start finds
+-- What a refusal leaves: the disk as it was. A log that would be too long is refused behind a sync, so that a crash may leave less
+-- than before.
 abbrev pub LeavesRefused : {D : Type 0} → DiskGhosts D → D → D → Refusal → Type 0
 LeavesRefused d old new NotEmpty = Untouched d old new
 LeavesRefused d old new (Image why) = Untouched d old new
@@ -211,10 +216,11 @@ verdict_of s (Err unmade.FreshFault) = None
 verdict_of s (Err unmade.NoMemory) = None
 
 -- a controller was made on a disk, or not, before any line is written
-pub record MadeOn {D T : Type 0} (d : DiskGhosts D) (comes : Verdict → Type 0) (old new : D) (made : Result T Unmade)
+pub record MadeOn {D T : Type 0} (d : DiskGhosts D) (comes : Verdict → Type 0) (untaken : Type 0) (old new : D) (made : Result T Unmade)
     : Type 0 where
   pub state : State
   pub is_so : IfSome (verdict_of state made) (IsVerdict d comes old)
+  pub sees_first : SeesFirst d untaken old (verdict_of state made)
   pub leaves : LeavesVerdict d old new (verdict_of state made)
   pub disk_fault : made ≡ Err unmade.DiskFault → d.faults old < d.faults new
   pub stays : verdict_of state made ≡ None → (made ≡ Err unmade.DiskFault → ⊥) → FindsAsBefore (of_disk d) old new
@@ -224,16 +230,18 @@ pub record MadeOn {D T : Type 0} (d : DiskGhosts D) (comes : Verdict → Type 0)
   pub begins : Begins (of_disk d) begun old new
   pub unbegun : begun ≡ None → Untouched d old new
 
--- A controller is made on an empty disk, of a state that comes so, and its line is written.
-pub record Makes {D K : Type 0} (d : DiskGhosts D) (k : SinkGhosts K) (comes : Verdict → Type 0) (verb name : List ℕ)
+-- A controller is made on an empty disk, of a state that comes so, and its line is written. Untaken says that no image was read and
+-- no identifier drawn.
+pub record Makes {D K : Type 0} (d : DiskGhosts D) (k : SinkGhosts K) (comes : Verdict → Type 0) (untaken : Type 0) (verb name : List ℕ)
     (old new : D) (before after : K) (how : Creation) : Type 0 where
   -- the state, or why there is none, if the command came so far; and then all its line is written, or a front of it
   pub verdict : Option Verdict
   pub is_so : IfSome verdict (IsVerdict d comes old)
+  pub sees_first : SeesFirst d untaken old verdict
   pub tells : TellsVerdict k verb name verdict before after how
   pub leaves : LeavesVerdict d old new verdict
   pub disk_fault : how ≡ installs.DiskFault → d.faults old < d.faults new
-  -- where it didn't come so far, a start finds what it found, also behind a crash, but for such a fault
+  -- where it didn't come so far, the bytes stay, and a start finds what it found, also behind a crash, but for such a fault
   pub stays : verdict ≡ None → (how ≡ installs.DiskFault → ⊥) → FindsAsBefore (of_disk d) old new
   -- the state that was begun to be written, if one was, and only over nothing; else nothing has changed of the disk
   pub begun : Option State

@@ -4,7 +4,7 @@ ghost use Rattle.std.specs.Prelude.{◌≡◌, ◌<◌, ◌≤◌};
 ghost use Rattle.adr_node.specs.Makes.{Adopts, IsReadAtMost, Makes, ReadsSo};
 ghost use Rattle.adr_node.specs.Seen.{Untouched};
 
-use crate::ended::{Creation, Refusal};
+use crate::ended::Creation;
 use crate::imaging::image_on;
 use crate::making::tell;
 use adr_call::Text;
@@ -28,7 +28,8 @@ pub fn adopt<D: Disk, S: Source, F: Fresh, K: Sink>(
     sink: &mut K,
 ) -> (Creation, D)
     ensures makes { let comes = Adopts given (S.left source.old) (F.identifiers fresh.old) (F.identifiers fresh.new) in
-        Makes D.Disk K.Sink comes verb.now name.now disk result.1 sink.old sink.new result.0 }
+        let untaken = (source.new ≡ source.old) × (fresh.new ≡ fresh.old) in
+        Makes D.Disk K.Sink comes untaken verb.now name.now disk result.1 sink.old sink.new result.0 }
     ensures write_later { K.faults sink.old ≤ K.faults sink.new }
 
     // Of the source no more is read than an image may have, 2^32 bytes; and so much, or all, where the command came further.
@@ -42,9 +43,6 @@ pub fn adopt<D: Disk, S: Source, F: Fresh, K: Sink>(
     ensures fresh_fault { result.0 ≡ Creation.FreshFault
         → (F.faults fresh.old < F.faults fresh.new) × Untouched D.Disk disk result.1 }
     ensures fresh_later { F.faults fresh.old ≤ F.faults fresh.new }
-
-    // Whether the disk is empty is seen before anything is read or drawn.
-    ensures undrawn { result.0 ≡ Creation.Refused Refusal.NotEmpty → (source.new ≡ source.old) × (fresh.new ≡ fresh.old) }
 {
     let (made, disk) = image_on(alloc, given, name, source, disk, fresh);
     (tell(alloc, verb, name, made, sink), disk)

@@ -5,7 +5,7 @@ ghost use Rattle.adr_node.specs.Begins.{Begun, BegunOn, IsUnbegun, TellsDamage, 
 ghost use Rattle.adr_node.specs.Seen.{of_disk, of_keeper};
 
 use crate::ended::{Unbegun, by_fault};
-use crate::lines::damaged_line;
+use crate::lines::{damaged_line, write};
 use adr_call::Text;
 use adr_controller::{Controller, Keeper, StartRefusal};
 use adr_disk::Disk;
@@ -18,12 +18,10 @@ use std::alloc::Global;
 fn tell_damage<S: Sink>(alloc: Global, place: u64, sink: &mut S) -> Unbegun
     ensures tells { TellsDamage S.Sink place sink.old sink.new result }
     ensures write { result ≡ Unbegun.WriteFault → S.faults sink.old < S.faults sink.new }
+    ensures write_ends { S.faults sink.old < S.faults sink.new → result ≡ Unbegun.WriteFault }
     ensures never_falls { S.faults sink.old ≤ S.faults sink.new }
 {
-    let Ok(line) = damaged_line(alloc, place) else {
-        return Unbegun::NoMemory;
-    };
-    match sink.write(&line) {
+    match write(damaged_line(alloc, place), sink) {
         Ok(()) => Unbegun::Damaged { place },
         Err(Fault::Failed) => Unbegun::WriteFault,
         Err(Fault::NoMemory) => Unbegun::NoMemory,
@@ -34,6 +32,7 @@ fn tell_damage<S: Sink>(alloc: Global, place: u64, sink: &mut S) -> Unbegun
 fn tell_refusal<S: Sink>(alloc: Global, refusal: StartRefusal, sink: &mut S) -> Unbegun
     ensures tells { TellsRefusal S.Sink refusal sink.old sink.new result }
     ensures write { result ≡ Unbegun.WriteFault → S.faults sink.old < S.faults sink.new }
+    ensures write_ends { S.faults sink.old < S.faults sink.new → result ≡ Unbegun.WriteFault }
     ensures never_falls { S.faults sink.old ≤ S.faults sink.new }
 {
     match refusal {

@@ -8,7 +8,7 @@ ghost use Rattle.adr_records.specs.Logged.{MayBegin};
 
 use crate::drawing::draw;
 use crate::ended::{Creation, Refusal};
-use crate::making::{Unmade, begin, find_empty, tell};
+use crate::making::{Unmade, find_empty, format_empty, tell};
 use adr_call::Text;
 use adr_disk::Disk;
 use adr_io::Sink;
@@ -37,10 +37,10 @@ fn new_on<D: Disk, F: Fresh>(
     mut disk: D,
     fresh: &mut F,
 ) -> (Result<(), Unmade>, D)
-    ensures made { MadeOn D.Disk (IsNew (F.identifiers fresh.old) (F.identifiers fresh.new)) disk result.1 result.0 }
+    ensures made { let comes = IsNew (F.identifiers fresh.old) (F.identifiers fresh.new) in
+        MadeOn D.Disk comes (fresh.new ≡ fresh.old) disk result.1 result.0 }
     ensures why { IfErr result.0 (λ e. e ≡ Unmade.ReadFault → ⊥) }
-    ensures alone { (refusal : Refusal) → result.0 ≡ Err (Unmade.Refused refusal)
-        → (refusal ≡ Refusal.NotEmpty) × (fresh.new ≡ fresh.old) }
+    ensures only { (refusal : Refusal) → result.0 ≡ Err (Unmade.Refused refusal) → refusal ≡ Refusal.NotEmpty }
     ensures fault { IsErrOf result.0 Unmade.FreshFault
         → (F.faults fresh.old < F.faults fresh.new) × Untouched D.Disk disk result.1 }
     ensures later { F.faults fresh.old ≤ F.faults fresh.new }
@@ -50,7 +50,7 @@ fn new_on<D: Disk, F: Fresh>(
         Err(unmade) => return (Err(unmade), disk),
     }
     match new_state(alloc, fresh) {
-        Ok(state) => begin(alloc, disk, state),
+        Ok(state) => format_empty(alloc, disk, state),
         Err(unmade) => (Err(unmade), disk),
     }
 }
@@ -65,7 +65,7 @@ pub fn create<D: Disk, F: Fresh, K: Sink>(
     sink: &mut K,
 ) -> (Creation, D)
     ensures makes { let comes = IsNew (F.identifiers fresh.old) (F.identifiers fresh.new) in
-        Makes D.Disk K.Sink comes (codes "create") name.now disk result.1 sink.old sink.new result.0 }
+        Makes D.Disk K.Sink comes (fresh.new ≡ fresh.old) (codes "create") name.now disk result.1 sink.old sink.new result.0 }
     ensures write_later { K.faults sink.old ≤ K.faults sink.new }
 
     // Nothing is read.
@@ -76,9 +76,8 @@ pub fn create<D: Disk, F: Fresh, K: Sink>(
         → (F.faults fresh.old < F.faults fresh.new) × Untouched D.Disk disk result.1 }
     ensures fresh_later { F.faults fresh.old ≤ F.faults fresh.new }
 
-    // Only a disk that has bytes is refused, before anything is drawn.
-    ensures alone { (refusal : Refusal) → result.0 ≡ Creation.Refused refusal
-        → (refusal ≡ Refusal.NotEmpty) × (fresh.new ≡ fresh.old) }
+    // Only a disk that has bytes is refused.
+    ensures only { (refusal : Refusal) → result.0 ≡ Creation.Refused refusal → refusal ≡ Refusal.NotEmpty }
 {
     let (made, disk) = new_on(alloc, name, disk, fresh);
     (tell(alloc, "create", name, made, sink), disk)

@@ -13,7 +13,7 @@ ghost use Rattle.adr_wire.specs.Ranges.{IsId};
 
 use crate::drawing::draw;
 use crate::ended::{Refusal, by_fault};
-use crate::making::{Unmade, begin, find_empty};
+use crate::making::{Unmade, find_empty, format_empty};
 use adr_call::{Failure, Text};
 use adr_disk::Disk;
 use adr_image::{Dormant, decode};
@@ -149,7 +149,8 @@ pub(crate) fn image_on<D: Disk, S: Source, F: Fresh>(
     fresh: &mut F,
 ) -> (Result<(), Unmade>, D)
     ensures made { let comes = Adopts given (S.left source.old) (F.identifiers fresh.old) (F.identifiers fresh.new) in
-        MadeOn D.Disk comes disk result.1 result.0 }
+        let untaken = (source.new ≡ source.old) × (fresh.new ≡ fresh.old) in
+        MadeOn D.Disk comes untaken disk result.1 result.0 }
     ensures reads { ReadsSo (S.left source.old) (S.left source.new) (ended_as result.0) }
     ensures at_most { IsReadAtMost (S.left source.old) (S.left source.new) }
     ensures read_fault { IsErrOf result.0 Unmade.ReadFault
@@ -158,14 +159,13 @@ pub(crate) fn image_on<D: Disk, S: Source, F: Fresh>(
     ensures fault { IsErrOf result.0 Unmade.FreshFault
         → (F.faults fresh.old < F.faults fresh.new) × Untouched D.Disk disk result.1 }
     ensures later { F.faults fresh.old ≤ F.faults fresh.new }
-    ensures undrawn { IsErrOf result.0 (Unmade.Refused Refusal.NotEmpty) → (source.new ≡ source.old) × (fresh.new ≡ fresh.old) }
 {
     match find_empty(name, &mut disk) {
         Ok(()) => {}
         Err(unmade) => return (Err(unmade), disk),
     }
     match adopt_read(alloc, given, source, fresh) {
-        Ok(state) => begin(alloc, disk, state),
+        Ok(state) => format_empty(alloc, disk, state),
         Err(unmade) => (Err(unmade), disk),
     }
 }

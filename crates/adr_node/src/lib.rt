@@ -13,14 +13,14 @@ mod drawing;
 mod ended;
 mod imaging;
 mod lines;
+mod looking;
 mod making;
 mod sights;
 mod verdicts;
-mod waking;
 
 pub use adopting::adopt;
 pub use beginning::begin;
 pub use creating::create;
 pub use ended::{Creation, Looked, Refusal, Unbegun};
+pub use looking::look;
 pub use sights::Sight;
-pub use waking::look;

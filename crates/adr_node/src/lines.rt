@@ -1,11 +1,13 @@
-//! The lines of a node's commands that no answer of a schedule has.
+//! The lines of a node's commands that no answer of a schedule has, and how lines are written.
 
-ghost use Rattle.std.specs.Prelude.{◌≡◌, ◌++◌, IfOk, codes};
+ghost use Rattle.std.specs.Prelude.{◌≡◌, ◌++◌, ◌<◌, ◌≤◌, IfOk, IsErrOf, OnErr, OnOk, codes};
 ghost use Rattle.std.specs.Fmt.{decimal};
+ghost use Rattle.adr_io.specs.Told.{Adds, AddsFront};
 ghost use Rattle.adr_node.specs.Lines.{damaged_line, refusal_line};
 
 use adr_answers::{push_number_behind, result_line};
 use adr_call::Outcome;
+use adr_io::{Fault, Sink};
 use adr_token::push;
 use adr_values::NoMemory;
 use std::alloc::Global;
@@ -34,4 +36,19 @@ pub(crate) fn refusal_line(alloc: Global, outcome: &Outcome) -> Result<Vec<u8>, 
     ensures { IfOk result (λ bytes. bytes.items ≡ refusal_line outcome.now) }
 {
     result_line(alloc, outcome)
+}
+
+/// Writes what was made, if it could be.
+pub(crate) fn write<K: Sink>(made: Result<Vec<u8>, NoMemory>, sink: &mut K) -> Result<(), Fault>
+    ensures ok { OnOk result (IfOk made (λ bytes. Adds (K.written sink.old) (K.written sink.new) bytes.items)) }
+    ensures made { OnOk result (OnErr made ⊥) }
+    ensures front { OnErr result (IfOk made (λ bytes. AddsFront (K.written sink.old) (K.written sink.new) bytes.items)) }
+    ensures unmade { OnErr made (sink.new ≡ sink.old) }
+    ensures never_falls { K.faults sink.old ≤ K.faults sink.new }
+    ensures failed { IsErrOf result Fault.Failed → K.faults sink.old < K.faults sink.new }
+    ensures not_counted { OnOk result (K.faults sink.new ≡ K.faults sink.old) }
+    ensures no_memory_counted { IsErrOf result Fault.NoMemory → K.faults sink.new ≡ K.faults sink.old }
+{
+    let bytes = made?;
+    sink.write(bytes.as_slice())
 }

@@ -1,6 +1,6 @@
 //! What the commands have in common that make a controller on an empty disk.
 
-ghost use Rattle.std.specs.Prelude.{◌≡◌, ◌⊎◌, ◌<◌, ◌≤◌, [], None, Some, Ok, Err, IfErr, IfSome, IsErrOf, OnOk};
+ghost use Rattle.std.specs.Prelude.{◌≡◌, ◌<◌, ◌≤◌, [], None, Some, Ok, Err, IfSome, IsErrOf, OnOk};
 ghost use Rattle.std.specs.Option.{ForSome};
 ghost use Rattle.adr_disk.specs.Disk.{Among};
 ghost use Rattle.adr_model.specs.Store.{State as Defined};
@@ -10,8 +10,8 @@ ghost use Rattle.adr_node.specs.Makes.{Begins, HasNone, SeesNone, TellsVerdict, 
 ghost use Rattle.adr_node.specs.Seen.{of_disk, of_keeper};
 
 use crate::ended::{Creation, Refusal, by_fault};
+use crate::lines::write;
 use crate::verdicts::verdict_line;
-use crate::waking::write;
 use adr_call::Text;
 use adr_controller::{Controller, Keeper, KeeperRefusal};
 use adr_disk::Disk;
@@ -93,9 +93,13 @@ fn format_disk<D: Disk>(alloc: Global, disk: D, state: State) -> (Result<(), Unm
     (made, journal.into_disk())
 }
 
-/// Begins to keep a state on a disk that has no bytes. The disk is synced before, since its length alone doesn't say that a
-/// crash leaves none.
-pub(crate) fn begin<D: Disk>(alloc: Global, mut disk: D, state: State) -> (Result<(), Unmade>, D)
+/// Formats a disk that has no bytes with a state. It is synced before, since its length alone doesn't say that a crash
+/// leaves none.
+pub(crate) fn format_empty<D: Disk>(
+    alloc: Global,
+    mut disk: D,
+    state: State,
+) -> (Result<(), Unmade>, D)
     requires begins { MayBegin state }
     requires empty { HasNone D.Disk disk }
     ensures begins { Begins (of_disk D.Disk) (Some state) disk result.1 }

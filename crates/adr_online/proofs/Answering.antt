@@ -1,5 +1,5 @@
 -- What a session's end is to the server, once the connection is hung up.
-use Rattle.std.proofs.Common.{◌≡◌, ◌⊎◌, inl, inr, refl, ⊎_elim, ℕ, List, [], ◌++◌, take, Option, Some, None, Result, Ok, Err, IfSome, arith, ◌≤◌, ◌<◌}
+use Rattle.std.proofs.Common.{◌≡◌, ◌⊎◌, inl, inr, refl, ap, ⊎_elim, ℕ, List, [], ◌++◌, take, Option, Some, None, Result, Ok, Err, IfSome, arith, ◌≤◌, ◌<◌}
 use Rattle.std.specs.Option.{option_map}
 use Rattle.std.specs.Prelude.{IfErr, IfOk, IsErrOf, OnErr}
 use Rattle.adr_disk.specs.Disk.{Among}
@@ -15,10 +15,11 @@ use Rattle.adr_session.specs.declared.ending.Served.{Served}
 use Rattle.adr_session.specs.declared.ending.ServeFault.{ServeFault}
 use Rattle.adr_session.specs.declared.ending.ServeFault.TheVariants as faults
 use Rattle.adr_law_controller.specs.Keeping.{Stands}
-use Rattle.adr_session.specs.Told.{EndsByFault, IsAt, FindsNear, LeavesBehind, ServedTo, Serves}
+use Rattle.adr_session.specs.Talk.{Point, Reaches, message_limit}
+use Rattle.adr_session.specs.Told.{EndsByFault, HasSent, IsAt, FindsNear, LeavesBehind, ServedTo, Serves}
 use Rattle.adr_online.specs.declared.ended.Stop.TheVariants as stops
 use Rattle.adr_online.specs.Posts.{Post, Fails, done, opened}
-use Rattle.adr_online.specs.Served.{AnswersAll, stopped}
+use Rattle.adr_online.specs.Served.{AnswersAll, HangsUp, stopped}
 use Rattle.adr_online.proofs.Hanging.{hung}
 
 -- the connection was opened, and nothing was done in it yet
@@ -38,46 +39,57 @@ module _ {K : Type 0} (k : KeeperGhosts K) (before : K) (p : Post) (came : List 
   answered_to n ended.Malformed b = (b.0, b.0.sent, (b.1, refl), b.2.stands, hung rest (done p) came b.0.sent net new is b.2.net, b.2.clock)
   answered_to n ended.Limit b = (b.0, b.0.sent, (b.1, refl), b.2.stands, hung rest (done p) came b.0.sent net new is (b.0.left, b.2.net), b.2.clock)
   answered_to n ended.Fault b =
-      let r = b.2.0 in
-      let cut = b.2.1 in (
-        r,
-        b.0.sent ++ take cut.count cut.due,
-        (b.0, b.1, cut.near, (cut.due, cut.count, cut.whole, refl)),
+      let m = b.1 in
+      let cut = m.2.1 in (
+        m.2.0,
+        m.0.sent ++ take cut.count cut.due,
+        (b.0, m.0, m.1, cut.near, (cut.due, cut.count, cut.whole, cut.short, refl)),
         cut.stands,
-        hung rest (done p) came (b.0.sent ++ take cut.count cut.due) net new is cut.net,
+        hung rest (done p) came (m.0.sent ++ take cut.count cut.due) net new is cut.net,
         cut.clock,
       )
 
+  hangs_up : (n : ℕ) (x : Point) → n < message_limit → Reaches n (opened p came) x → HasSent line x.sent net → HangsUp p came rest n x new
+  hangs_up n x lt reaches has = (lt, reaches, hung rest (done p) came x.sent net new is has)
+
   pub answered_clock : Serves k line (opened p came) (Err faults.Clock) c net clock → AnswersAll k before p came rest (Err stops.Clock) c new clock
   answered_clock s =
-      let q = s.1.0 in
-      (q, s.0, s.1.1, hung rest (done p) came q.sent net new is s.1.2.1.net, s.1.2.0, s.1.2.1.stands, s.1.2.1.clock)
+      let m = s.2 in
+      (m.0, s.0, hangs_up s.0 m.0 s.1 m.1 m.2.1.net, m.2.0, m.2.1.stands, m.2.1.clock)
 
   pub answered_memory : Serves k line (opened p came) (Err faults.NoMemory) c net clock → AnswersAll k before p came rest (Err stops.NoMemory) c new clock
   answered_memory s =
-      let q = s.1.0 in
-      let wants = s.1.2.1 in
-      (q, s.0, s.1.1, hung rest (done p) came q.sent net new is wants.net, (s.1.2.0, wants.near, wants.stands))
+      let m = s.2 in
+      let wants = m.2.1 in
+      (m.0, s.0, hangs_up s.0 m.0 s.1 m.1 wants.net, wants.clock, (m.2.0, wants.near, wants.stands))
 
   -- the point is the one of which it is told what a start finds, where that is told
   pub answered_disk : Serves k line (opened p came) (Err faults.Disk) c net clock
-      → IfSome (k.told before) (λ _. LeavesBehind k line (opened p came) (Err faults.Disk) c net)
+      → IfSome (k.told before) (λ _. LeavesBehind k line (opened p came) (Err faults.Disk) c net clock)
       → AnswersAll k before p came rest (Err stops.Disk) c new clock
   answered_disk s left = by_told (k.told before) refl left
     where
-      by_told : (o : Option (Started State)) → k.told before ≡ o → IfSome o (λ _. LeavesBehind k line (opened p came) (Err faults.Disk) c net)
+      by_told : (o : Option (Started State)) → k.told before ≡ o → IfSome o (λ _. LeavesBehind k line (opened p came) (Err faults.Disk) c net clock)
           → AnswersAll k before p came rest (Err stops.Disk) c new clock
       by_told None told left =
-          let q = s.1.0 in
+          let m = s.2 in
+          let q = m.0 in
           let none : IfSome (k.told before) (λ _. Among (FindsNear q) (k.may_leave c.keeper)) = rw told tt in
-          (q, s.0, s.1.1, hung rest (done p) came q.sent net new is s.1.2.net, (s.1.2.state, none))
+          (q, s.0, hangs_up s.0 q s.1 m.1 m.2.net, (m.2.state, none), m.2.clock)
       by_told (Some x) told left =
-          let q = left.1.0 in
-          (q, left.0, left.1.1, hung rest (done p) came q.sent net new is left.1.2.0, (s.1.2.state, if_told (k.told before) (λ _. Among (FindsNear q) (k.may_leave c.keeper)) (λ t tells. left.1.2.1)))
+          let m = left.2 in
+          let q = m.0 in
+          let failed = m.2.0 in (
+            q,
+            left.0,
+            hangs_up left.0 q left.1 m.1 failed.net,
+            (failed.state, if_told (k.told before) (λ _. Among (FindsNear q) (k.may_leave c.keeper)) (λ t tells. m.2.1)),
+            failed.clock,
+          )
 
   -- however the session ended
   pub answered_so : (r : Result Served ServeFault) → Serves k line (opened p came) r c net clock
-      → IfSome (k.told before) (λ _. LeavesBehind k line (opened p came) r c net) → AnswersAll k before p came rest (stopped r) c new clock
+      → IfSome (k.told before) (λ _. LeavesBehind k line (opened p came) r c net clock) → AnswersAll k before p came rest (stopped r) c new clock
   answered_so (Ok s) serves left = answered_to s.messages s.end serves
   answered_so (Err faults.Disk) serves left = answered_disk serves left
   answered_so (Err faults.Clock) serves left = answered_clock serves
@@ -108,6 +120,11 @@ stopped_clock (Ok s) is = absurd (cc is)
 stopped_clock (Err faults.Disk) is = absurd (cc is)
 stopped_clock (Err faults.Clock) is = refl
 stopped_clock (Err faults.NoMemory) is = absurd (cc is)
+
+-- the clock failed just where that stops it
+pub clock_stopped : (r : Result Served ServeFault) (old new : ℕ) → IsErrOf r faults.Clock ⊎ (new ≡ old) → old < new → IsErrOf (stopped r) stops.Clock
+clock_stopped r old new (inl is) rose = ap stopped is
+clock_stopped r old new (inr same) rose = absurd (omega (arith, rose, same))
 
 -- ---- whether a call failed in the connection
 

@@ -71,6 +71,9 @@ none_served d n c s count old new why u net clock =
       doors_later = omega (arith, doors);
       lines_later = omega (arith, lines);
       clock_later = omega (arith, times);
+      link_ends = λ rose. absurd (omega (arith, rose, doors));
+      clock_ends = λ rose. absurd (omega (arith, rose, times));
+      write_ends = λ rose. ap unserved (u.write_ends rose);
     }
 
 -- ---- one was
@@ -142,4 +145,7 @@ module _ {K N C S : Type 0} (k : KeeperGhosts K) (n : NetGhosts N) (c : ClockGho
         doors_later = e.doors_later;
         lines_later = e.lines_later;
         clock_later = e.clock_later;
+        link_ends = λ rose. is ∙ ap online_of (e.link_ends rose);
+        clock_ends = λ rose. is ∙ ap online_of (e.clock_ends rose);
+        write_ends = λ rose. is ∙ ap online_of (e.write_ends rose);
       }

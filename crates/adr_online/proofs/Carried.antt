@@ -11,7 +11,8 @@ use Rattle.adr_node.specs.Seen.{Mirrors, Seen}
 use Rattle.adr_node.proofs.Mirrored.{ends_over, leaves_over, stands_over, still_over, told_over}
 use Rattle.adr_pull.specs.Fetch.{Point}
 use Rattle.adr_pull.specs.Told.{FindsNear}
-use Rattle.adr_online.specs.Pulls.{Does, FallsOn, FindsPulled, Hands, IsUnpulled, LeavesSo, Pulls, outside_of}
+use Rattle.adr_online.specs.Pulls.{Does, FallsOn, FindsPulled, Hands, IsUnpulled, LeavesSo, Pulls}
+use Rattle.adr_online.specs.Dialled.{outside_of}
 use Rattle.adr_online.specs.declared.ended.Pulled.{Pulled}
 use Rattle.adr_online.proofs.Cycled.{pulls_less}
 
@@ -40,7 +41,7 @@ module _ {D E N S : Type 0} (d : Seen D) (e : Seen E) (n : NetGhosts N) (k : Sin
 
   does_over : (there : Started State) (how : Pulled) → Does e n k name there BeforeIn BehindIn how → Does d n k name there Before Behind how
   does_over (Ok f) how does = λ p at.
-      pulls_less (StandsOn e to) (StandsOn d new) (FallsOn e to) (FallsOn d new) (stands_over d e old new from to first last) falls_over p (outside_of n k Behind) name f how (does p at)
+      pulls_less (StandsOn e to) (StandsOn d new) (FallsOn e to) (FallsOn d new) (stands_over d e old new from to first last) falls_over p (outside_of n k net_after sink_after) name f how (does p at)
   does_over (Err place) how does = absurd does
 
   leaves_so_over : (found : Started State) → LeavesSo e n k name found BeforeIn BehindIn → LeavesSo d n k name found Before Behind
@@ -64,4 +65,6 @@ module _ {D E N S : Type 0} (d : Seen D) (e : Seen E) (n : NetGhosts N) (k : Sin
     disk_later = omega (arith, first.faults, last.faults, p.disk_later);
     doors_later = p.doors_later;
     lines_later = p.lines_later;
+    doors_only = p.doors_only;
+    lines_only = p.lines_only;
   }

@@ -16,7 +16,7 @@ use Rattle.adr_outside.specs.Counted.{IsCounted}
 use Rattle.adr_outside.specs.declared.net.Net.{Ghosts as NetGhosts}
 use Rattle.adr_outside.specs.declared.clock.Clock.{Ghosts as ClockGhosts}
 use Rattle.adr_session.specs.declared.ending.Served.{Served}
-use Rattle.adr_session.specs.Talk.{Point, Reaches}
+use Rattle.adr_session.specs.Talk.{Point}
 use Rattle.adr_law_controller.specs.Keeping.{Stands}
 use Rattle.adr_session.specs.Told.{FindsBehind}
 use Rattle.adr_law_controller.proofs.Crashes.{Crashes, LeavesLaw, OnlyNowLaw, crash_by, still_crashes}
@@ -25,7 +25,7 @@ use Rattle.adr_online.specs.declared.ended.Stop.{Stop}
 use Rattle.adr_online.specs.declared.ended.Stop.TheVariants as stops
 use Rattle.adr_online.specs.Lines.{connection_line}
 use Rattle.adr_online.specs.Posts.{Post, Connects, Fails, FindsFrom, done, opened}
-use Rattle.adr_online.specs.Served.{called, AnswersAll, HasFallen, IsAt, IsHungUp, IsTelling, IsUnopened, Outside, ServesNext, StopsAt}
+use Rattle.adr_online.specs.Served.{called, AnswersAll, HangsUp, HasFallen, IsAt, IsHungUp, IsTelling, IsUnopened, Outside, ServesNext, StopsAt}
 use Rattle.adr_online.specs.Goes.{Answers, CallsDoor, Server, ServesOne, outside}
 use Rattle.adr_online.proofs.Hanging.{OpensNext}
 
@@ -69,14 +69,13 @@ module _ {K : Type 0} (k : KeeperGhosts K) (before : K) (c : Running K) (number 
     abbrev there : Outside
     there = record { net = net; clock = clock; lines = lines; faults = faults }
 
-    hung_there : (x : Point) (n : ℕ) → Reaches n (opened p came) x → net ≡ Some (closed rest (done p ++ x.sent ∷ [])) → IsHungUp p x there
-    hung_there x n reaches is = record {
+    hung_there : (x : Point) (n : ℕ) → HangsUp p came rest n x net → IsHungUp p x there
+    hung_there x n hangs = record {
       came = came;
       rest = rest;
       opens = opens;
       count = n;
-      reaches = reaches;
-      net = is;
+      hangs = hangs;
       lines = still;
       faults = none;
     }
@@ -84,9 +83,9 @@ module _ {K : Type 0} (k : KeeperGhosts K) (before : K) (c : Running K) (number 
     pub cut_off : (stop : Stop) → AnswersAll k before p came rest (Err stop) c net clock → StopsAt at fallen number p stop there
     cut_off stops.Write a = absurd a
     cut_off stops.Link a = absurd a
-    cut_off stops.Disk a = (a.0, hung_there a.0 a.1 a.2 a.3, a.4)
-    cut_off stops.Clock a = (a.0, hung_there a.0 a.1 a.2 a.3, a.4, a.5, a.6)
-    cut_off stops.NoMemory a = inr (inl (a.0, a.4.0, hung_there a.0 a.1 a.2 a.3, a.4.1, a.4.2))
+    cut_off stops.Disk a = (a.0, hung_there a.0 a.1 a.2, a.3, a.4)
+    cut_off stops.Clock a = (a.0, hung_there a.0 a.1 a.2, a.3, a.4, a.5)
+    cut_off stops.NoMemory a = inr (inl (a.0, a.4.0, hung_there a.0 a.1 a.2, a.3, a.4.1, a.4.2))
 
   -- it was answered to its end
   module _ (s : Served) (a : AnswersAll k before p came rest (Ok s) c net clock) (fails : Fails s.end p.faults faults) (was lines : Option (List ℕ))
@@ -122,9 +121,13 @@ module _ {K : Type 0} (k : KeeperGhosts K) (before : K) (c : Running K) (number 
           lines = cut.1;
         }
 
+    -- or nothing of its line
+    untold : lines ≡ was → IsAt (record next { written = p.written }) now
+    untold same = record { net = a.4; clock = a.5; lines = same ∙ wrote; faults = refl }
+
     pub told_so : (r : Result Unit Stop) → OnOk r (Adds was lines line) → OnErr r (AddsFront was lines line)
-        → IfErr r (λ stop. (stop ≡ stops.Write) ⊎ (stop ≡ stops.NoMemory)) → ServesNext at fallen number p r now
-    told_so (Ok u) adds front only = (
+        → IfErr r (λ stop. (stop ≡ stops.Write) ⊎ (stop ≡ stops.NoMemory)) → (IsErrOf r stops.NoMemory → lines ≡ was) → ServesNext at fallen number p r now
+    told_so (Ok u) adds front only unwritten = (
       next,
       connects,
       a.3,
@@ -135,10 +138,11 @@ module _ {K : Type 0} (k : KeeperGhosts K) (before : K) (c : Running K) (number 
         faults = refl;
       },
     )
-    told_so (Err stop) adds front (inl is) =
+    told_so (Err stop) adds front (inl is) unwritten =
         subst (λ (x : Stop). StopsAt at fallen number p x now) (sym is) (next, connects, a.3, telling front)
-    told_so (Err stop) adds front (inr is) =
-        subst (λ (x : Stop). StopsAt at fallen number p x now) (sym is) (inr (inr (next, connects, a.3, telling front)))
+    told_so (Err stop) adds front (inr is) unwritten =
+        let same : lines ≡ was = unwritten (cc is) in
+        subst (λ (x : Stop). StopsAt at fallen number p x now) (sym is) (inr (inr (next, connects, a.3, untold same)))
 
 -- ---- what a crash leaves
 
@@ -169,6 +173,7 @@ door_called n old new (Ok u) a stays hangs = record {
   stays = λ is. absurd (cc is);
   hangs = λ is. absurd (cc is);
   link = λ is. absurd (cc is);
+  link_ends = λ rose. let same : n.doors new ≡ n.doors old = a.passed in absurd (omega (arith, rose, same));
   doors_later = a.never_falls;
   lines = a.other;
 }
@@ -177,6 +182,7 @@ door_called n old new (Err Failed) a stays hangs = record {
   stays = λ is. absurd (cc is);
   hangs = λ is. hangs refl;
   link = λ is. a.failed refl;
+  link_ends = λ rose. refl;
   doors_later = a.never_falls;
   lines = a.other;
 }
@@ -185,6 +191,7 @@ door_called n old new (Err NoMemory) a stays hangs = record {
   stays = λ is. stays refl;
   hangs = λ is. absurd (cc is);
   link = λ is. absurd (cc is);
+  link_ends = λ rose. let same : n.doors new ≡ n.doors old = a.no_memory refl in absurd (omega (arith, rose, same));
   doors_later = a.never_falls;
   lines = a.other;
 }
@@ -227,6 +234,9 @@ module _ {K N C S : Type 0} (k : KeeperGhosts K) (n : NetGhosts N) (c : ClockGho
     clock_later = a.clock_later;
     write = λ is. absurd (neither stops.Write (cc is) a.only (λ e. cc e) (λ e. cc e) (λ e. cc e));
     sink_later = omega arith;
+    link_ends = λ rose. absurd (cc (door.link_ends (omega (arith, a.doors, rose))));
+    clock_ends = λ rose. let same : stop ≡ stops.Clock = (cc (a.clock_ends rose)) in ap (λ (x : Stop). let r : Result Unit Stop = Err x in r) same;
+    write_ends = λ rose. absurd (omega (arith, rose));
   }
     where
       neither : (x : Stop) → stop ≡ x → (stop ≡ stops.Disk) ⊎ ((stop ≡ stops.Clock) ⊎ (stop ≡ stops.NoMemory)) → (x ≡ stops.Disk → ⊥) → (x ≡ stops.Clock → ⊥) → (x ≡ stops.NoMemory → ⊥) → ⊥
@@ -238,15 +248,17 @@ module _ {K N C S : Type 0} (k : KeeperGhosts K) (n : NetGhosts N) (c : ClockGho
   pub told_goes : (served : Served) → Answered (Ok served) → (sink : S) (r : Result Unit Stop)
       → OnOk r (Adds (s.written v.sink) (s.written sink) (connection_line number served.messages served.end))
       → OnErr r (AddsFront (s.written v.sink) (s.written sink) (connection_line number served.messages served.end))
-      → IfErr r (λ stop. (stop ≡ stops.Write) ⊎ (stop ≡ stops.NoMemory)) → (IsErrOf r stops.Write → s.faults v.sink < s.faults sink) → s.faults v.sink ≤ s.faults sink
+      → IfErr r (λ stop. (stop ≡ stops.Write) ⊎ (stop ≡ stops.NoMemory)) → (IsErrOf r stops.NoMemory → s.written sink ≡ s.written v.sink)
+      → (IsErrOf r stops.Write → s.faults v.sink < s.faults sink)
+      → (s.faults v.sink < s.faults sink → IsErrOf r stops.Write) → s.faults v.sink ≤ s.faults sink
       → ServesOne k n c s number v (record { controller = after; net = net; clock = clock; sink = sink }) r
-  told_goes served a sink r adds front only write sink_later = record {
+  told_goes served a sink r adds front only unwritten write write_ends sink_later = record {
     up = if_ok_any (IsSome after.state) r a.up;
     serves = λ p stands at.
         let o = next_opens p (outside n c s v) (n.traffic begun) at opens in
         told_so k v.controller.keeper after number p o.came o.rest o.opens (n.traffic net) (c.moments clock) (n.lines net) served
         (a.answers p o.came o.rest stands o.net at.clock) (subst (λ (x : ℕ). Fails served.end x (n.lines net)) (door.lines ∙ at.faults) a.fails)
-        (s.written v.sink) (s.written sink) at.lines r adds front only;
+        (s.written v.sink) (s.written sink) at.lines r adds front only unwritten;
     any_moment = crash_passed (Ok served) a;
     told = a.told;
     disk = λ is. absurd (only_told r stops.Disk only is (λ e. cc e) (λ e. cc e));
@@ -258,4 +270,7 @@ module _ {K N C S : Type 0} (k : KeeperGhosts K) (n : NetGhosts N) (c : ClockGho
     clock_later = a.clock_later;
     write = write;
     sink_later = sink_later;
+    link_ends = λ rose. absurd (cc (door.link_ends (omega (arith, a.doors, rose))));
+    clock_ends = λ rose. absurd (cc (a.clock_ends rose));
+    write_ends = write_ends;
   }

@@ -1,5 +1,6 @@
 -- Many connections, one after the other.
-use Rattle.std.proofs.Common.{◌≡◌, ◌⊎◌, ◌≤◌, ◌<◌, ◌+◌, ◌∙◌, inl, inr, refl, sym, ap, subst, ℕ, suc, Result, Ok, Err, arith}
+use Rattle.std.proofs.Common.{◌≡◌, ◌⊎◌, ◌≤◌, ◌<◌, ◌+◌, ◌∙◌, inl, inr, ⊎_elim, refl, sym, ap, subst, ℕ, zero, suc, Result, Ok, Err, arith}
+use Rattle.std.proofs.lemmas.Bool.{cases_lt}
 use Rattle.std.specs.Prelude.{IsSome}
 use Rattle.adr_io.specs.declared.Sink.{Ghosts as SinkGhosts}
 use Rattle.adr_disk.specs.Disk.{Among}
@@ -7,6 +8,7 @@ use Rattle.adr_outside.specs.declared.net.Net.{Ghosts as NetGhosts}
 use Rattle.adr_outside.specs.declared.clock.Clock.{Ghosts as ClockGhosts}
 use Rattle.adr_model.specs.Store.{State}
 use Rattle.adr_law_journal.specs.Areas.{Found, Started}
+use Rattle.adr_law_journal.specs.Kept.{FindsState}
 use Rattle.adr_journal.specs.declared.keeper.Keeper.{Ghosts as KeeperGhosts}
 use Rattle.adr_controller.specs.Running.{IsInOrder, Running}
 use Rattle.adr_law_controller.specs.Keeping.{Stands}
@@ -53,18 +55,34 @@ module _ {K : Type 0} (k : KeeperGhosts K) where
       (stops_so (λ f. Stands k f c) (λ f. Stands k f c) (λ x. HasFallen k mid x c) (λ x. HasFallen k first x c) (λ f stands. stands) (fell_since first mid told c) (n + 1) q stop o stops)
 
   -- no connection was served yet
+  first_found : (count : ℕ) (p : Post) (s : Started State) → FindsState p.stands.state s → FindsWithin count p s
+  first_found zero p s finds = (0, p, refl, inr (refl, finds))
+  first_found (suc count) p s finds = (0, p, refl, inl (omega arith, inl finds))
+
   pub crashes_first : LeavesLaw k → OnlyNowLaw k → (count : ℕ) (p : Post) (c : Running K) → Stands k p.stands c → IsInOrder k c → Crashes k c.keeper c.keeper (FindsWithin count p)
   crashes_first leaves only_now count p c stands in_order =
-      still_crashes k leaves only_now (FindsWithin count p) p.stands c stands in_order (λ s finds. (0, p, omega arith, refl, inl finds))
+      still_crashes k leaves only_now (FindsWithin count p) p.stands c stands in_order (first_found count p)
 
   -- a crash so far, and in one connection more
-  pub crashes_further : (n m : ℕ) (p q : Post) (first mid new : K) → n ≤ m → Behind n p q → Crashes k first mid (FindsWithin n p) → (IsSome (k.told first) → IsSome (k.told mid))
+  found_further : (n m : ℕ) (p : Post) (s : Started State) → n < m → FindsWithin n p s → FindsWithin m p s
+  found_further n m p s lt finds = (
+    finds.0,
+    finds.1,
+    finds.2,
+    inl (⊎_elim (λ some. (omega (arith, lt, some.0), some.1)) (λ all. (omega (arith, lt, all.0), inl all.1)) finds.3),
+  )
+
+  pub crashes_further : (n m : ℕ) (p q : Post) (first mid new : K) → n < m → Behind n p q → Crashes k first mid (FindsWithin n p) → (IsSome (k.told first) → IsSome (k.told mid))
       → Crashes k mid new (FindsFrom q) → Crashes k first new (FindsWithin m p)
-  crashes_further n m p q first mid new le behind so_far told more =
-      crash_on k first mid new (FindsWithin n p) (FindsFrom q) (FindsWithin m p) (λ s finds. (finds.0, finds.1, omega (arith, le, finds.2), finds.3, finds.4))
-      (λ s finds. (n, q, le, behind, finds)) so_far told more
+  crashes_further n m p q first mid new lt behind so_far told more =
+      crash_on k first mid new (FindsWithin n p) (FindsFrom q) (FindsWithin m p) (λ s finds. found_further n m p s lt finds)
+      (λ s finds. (n, q, behind, inl (lt, finds))) so_far told more
 
 -- ---- with what is counted
+
+-- a count that didn't rise at first rose then
+rises_then : {A : Type 0} (a b d : ℕ) → (a < b → ⊥) → (b < d → A) → a < d → A
+rises_then a b d none then rose = ⊎_elim (λ first. absurd (none first)) (λ (all : b ≤ a). then (omega (arith, all, rose))) (cases_lt a b)
 
 module _ {K N C S : Type 0} (k : KeeperGhosts K) (n : NetGhosts N) (c : ClockGhosts C) (s : SinkGhosts S) where
   abbrev failing : Stop → Result Unit Stop
@@ -89,6 +107,9 @@ module _ {K N C S : Type 0} (k : KeeperGhosts K) (n : NetGhosts N) (c : ClockGho
     clock_later = omega arith;
     write = λ is. absurd (neither stops.Write (cc is) door.only (λ e. cc e) (λ e. cc e));
     sink_later = omega arith;
+    link_ends = door.link_ends;
+    clock_ends = λ rose. absurd (omega (arith, rose));
+    write_ends = λ rose. absurd (omega (arith, rose));
   }
     where
       neither : (x : Stop) → stop ≡ x → (stop ≡ stops.Link) ⊎ (stop ≡ stops.NoMemory) → (x ≡ stops.Link → ⊥) → (x ≡ stops.NoMemory → ⊥) → ⊥
@@ -131,6 +152,9 @@ module _ {K N C S : Type 0} (k : KeeperGhosts K) (n : NetGhosts N) (c : ClockGho
     clock_later = omega arith;
     write = λ is. absurd (cc is);
     sink_later = omega arith;
+    link_ends = λ rose. absurd (omega (arith, rose));
+    clock_ends = λ rose. absurd (omega (arith, rose));
+    write_ends = λ rose. absurd (omega (arith, rose));
   }
 
   module _ (m : ℕ) (first mid new : Server K N C S) (so : ServesSo k n c s m first mid (Ok tt)) where
@@ -155,6 +179,9 @@ module _ {K N C S : Type 0} (k : KeeperGhosts K) (n : NetGhosts N) (c : ClockGho
       clock_later = omega (arith, so.clock_later, one.clock_later);
       write = λ is. absurd (cc is);
       sink_later = omega (arith, so.sink_later, one.sink_later);
+      link_ends = rises_then (n.doors first.net) (n.doors mid.net) (n.doors new.net) (λ rose. cc (so.link_ends rose)) one.link_ends;
+      clock_ends = rises_then (c.faults first.clock) (c.faults mid.clock) (c.faults new.clock) (λ rose. cc (so.clock_ends rose)) one.clock_ends;
+      write_ends = rises_then (s.faults first.sink) (s.faults mid.sink) (s.faults new.sink) (λ rose. cc (so.write_ends rose)) one.write_ends;
     }
 
     -- or it stops there
@@ -178,6 +205,9 @@ module _ {K N C S : Type 0} (k : KeeperGhosts K) (n : NetGhosts N) (c : ClockGho
       clock_later = omega (arith, so.clock_later, one.clock_later);
       write = λ is. omega (arith, so.sink_later, one.write is);
       sink_later = omega (arith, so.sink_later, one.sink_later);
+      link_ends = rises_then (n.doors first.net) (n.doors mid.net) (n.doors new.net) (λ rose. cc (so.link_ends rose)) one.link_ends;
+      clock_ends = rises_then (c.faults first.clock) (c.faults mid.clock) (c.faults new.clock) (λ rose. cc (so.clock_ends rose)) one.clock_ends;
+      write_ends = rises_then (s.faults first.sink) (s.faults mid.sink) (s.faults new.sink) (λ rose. cc (so.write_ends rose)) one.write_ends;
     }
 
   -- behind a call that only listens
@@ -197,6 +227,9 @@ module _ {K N C S : Type 0} (k : KeeperGhosts K) (n : NetGhosts N) (c : ClockGho
     clock_later = so.clock_later;
     write = so.write;
     sink_later = so.sink_later;
+    link_ends = rises_then (n.doors v.net) (n.doors net) (n.doors new.net) (λ rose. cc (door.link_ends rose)) so.link_ends;
+    clock_ends = so.clock_ends;
+    write_ends = so.write_ends;
   }
     where
       listening : (p : Post) → IsAt p (outside n c s v) → IsAt p (outside n c s (record v { net = net }))

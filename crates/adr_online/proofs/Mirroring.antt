@@ -68,4 +68,7 @@ module _ {D E : Type 0} (d : Seen D) (e : Seen E) (old new : D) (from to : E) (f
       doors_later = s.doors_later;
       lines_later = s.lines_later;
       clock_later = s.clock_later;
+      link_ends = s.link_ends;
+      clock_ends = s.clock_ends;
+      write_ends = s.write_ends;
     }

@@ -15,10 +15,10 @@ module _ (at so : Found State → Type 0) (fallen fell : Point → Type 0) (stan
   pub stops_so : (number : ℕ) (p : Post) (stop : Stop) (o : Outside) → StopsAt at fallen number p stop o → StopsAt so fell number p stop o
   stops_so number p stops.Link o s = (stands p.stands s.0, s.1)
   stops_so number p stops.Write o s = (s.0, s.1, stands s.0.stands s.2, s.3)
-  stops_so number p stops.Disk o s = (s.0, s.1, falls s.0 s.2)
+  stops_so number p stops.Disk o s = (s.0, s.1, falls s.0 s.2, s.3)
   stops_so number p stops.Clock o s = (s.0, s.1, s.2, stands s.0.stands s.3, s.4)
   stops_so number p stops.NoMemory o (inl s) = inl (stands p.stands s.0, s.1)
-  stops_so number p stops.NoMemory o (inr (inl s)) = inr (inl (s.0, s.1, s.2, s.3, stands s.1.stands s.4))
+  stops_so number p stops.NoMemory o (inr (inl s)) = inr (inl (s.0, s.1, s.2, s.3, s.4, stands s.1.stands s.5))
   stops_so number p stops.NoMemory o (inr (inr s)) = inr (inr (s.0, s.1, stands s.0.stands s.2, s.3))
 
   pub serves_so : (count : ℕ) (p : Post) (r : Result Unit Stop) (o : Outside) → ServesAll at fallen count p r o → ServesAll so fell count p r o

@@ -16,11 +16,12 @@ use Rattle.adr_node.specs.declared.ended.Unbegun.{Unbegun}
 use Rattle.adr_node.specs.declared.ended.Unbegun.TheVariants as unbegun
 use Rattle.adr_law_controller.proofs.Crashes.{Crashes, LeavesLaw, TellsLaw, crash_on, tells_here}
 use Rattle.adr_law_controller.specs.Keeping.{Stands}
-use Rattle.adr_online.specs.Dialled.{IsAt, Post}
-use Rattle.adr_online.specs.Pulls.{Does, FallsOn, FindsPulled, Hands, LeavesSo, Pulls, PullsFrom, outside_of, unpulled}
+use Rattle.adr_online.specs.Dialled.{IsAt, Post, outside_of}
+use Rattle.adr_online.specs.Pulls.{Does, FallsOn, FindsPulled, Hands, LeavesSo, Pulls, PullsFrom, unpulled}
 use Rattle.adr_online.specs.declared.ended.Pulled.{Pulled}
 use Rattle.adr_online.specs.declared.ended.Pulled.TheVariants as pulls
-use Rattle.adr_online.proofs.Cycled.{Fallen, Up, pulls_less}
+use Rattle.adr_pull.specs.Told.{Fallen, Up}
+use Rattle.adr_online.proofs.Cycled.{pulls_less}
 
 write_unpulled : (why : Unbegun) → unpulled why ≡ pulls.WriteFault → why ≡ unbegun.WriteFault
 write_unpulled unbegun.WriteFault is = refl
@@ -60,6 +61,8 @@ module _ {D N S : Type 0} (d : Seen D) (n : NetGhosts N) (k : SinkGhosts S) (nam
         disk_later = u.disk_later;
         doors_later = omega (arith, doors);
         lines_later = omega (arith, lines);
+        doors_only = λ not. doors;
+        lines_only = λ not. lines;
       }
 
 module _ {K N S : Type 0} (k : KeeperGhosts K) (n : NetGhosts N) (s : SinkGhosts S) (name : List ℕ) where
@@ -71,19 +74,19 @@ module _ {K N S : Type 0} (k : KeeperGhosts K) (n : NetGhosts N) (s : SinkGhosts
 
     abbrev pub From : Type 0
     From =
-        (f : Found State) (p : Post) → Stands k f first → IsAt p (outside_of n s old)
-        → PullsFrom (Up k last) (Fallen k last) name f p how (outside_of n s new)
+        (f : Found State) (p : Post) → Stands k f first → IsAt p (outside_of n s old.net old.sink)
+        → PullsFrom (Up k last) (Fallen k last) name f p how (outside_of n s new.net new.sink)
 
     abbrev pub Crash : Type 0
     Crash =
-        (f : Found State) (p : Post) → Stands k f first → IsAt p (outside_of n s old)
+        (f : Found State) (p : Post) → Stands k f first → IsAt p (outside_of n s old.net old.sink)
         → Crashes k first.keeper last.keeper (λ x. k.may_leave first.keeper x ⊎ FindsPulled name f p x)
 
     from_there : From → Does (of_keeper k) n s name (Ok There) old new how
     from_there from = λ p at.
-        subst (λ (x : K). PullsFrom (StandsOn (of_keeper k) x) (FallsOn (of_keeper k) x) name There p how (outside_of n s new)) (sym is)
+        subst (λ (x : K). PullsFrom (StandsOn (of_keeper k) x) (FallsOn (of_keeper k) x) name There p how (outside_of n s new.net new.sink)) (sym is)
         (pulls_less (Up k last) (StandsOn (of_keeper k) last.keeper) (Fallen k last) (FallsOn (of_keeper k) last.keeper)
-        (λ f stands. tells_here k leaves f last tells stands order) (λ a b fell. fell.1) p (outside_of n s new) name There how
+        (λ f stands. tells_here k leaves f last tells stands order) (λ a b fell. fell.1) p (outside_of n s new.net new.sink) name There how
         (from There p (b.started.in_memory, b.started.at) at))
 
     crash_there : Crash → IfSome (k.told old.disk) (λ _. LeavesSo (of_keeper k) n s name (Ok There) old new)
@@ -105,6 +108,8 @@ module _ {K N S : Type 0} (k : KeeperGhosts K) (n : NetGhosts N) (s : SinkGhosts
       pub disk_later : k.faults first.keeper ≤ k.faults last.keeper
       pub doors_later : n.doors old.net ≤ n.doors new.net
       pub lines_later : n.lines old.net ≤ n.lines new.net
+      pub doors_only : (how ≡ pulls.LinkFault → ⊥) → n.doors new.net ≡ n.doors old.net
+      pub lines_only : (how ≡ pulls.LinkFault → ⊥) → n.lines new.net ≡ n.lines old.net
 
     pub started_pulls : From → Crash → Counted → Pulls (of_keeper k) n s name old new how
     started_pulls from crash counted =
@@ -123,4 +128,6 @@ module _ {K N S : Type 0} (k : KeeperGhosts K) (n : NetGhosts N) (s : SinkGhosts
           disk_later = omega (arith, e, counted.disk_later, b.later);
           doors_later = counted.doors_later;
           lines_later = counted.lines_later;
+          doors_only = counted.doors_only;
+          lines_only = counted.lines_only;
         }

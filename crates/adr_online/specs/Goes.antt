@@ -34,6 +34,7 @@ pub record CallsDoor {N : Type 0} (n : NetGhosts N) (old new : N) (r : Result Un
   pub stays : IsErrOf r stops.NoMemory → n.traffic new ≡ n.traffic old
   pub hangs : IsErrOf r stops.Link → (n.traffic new ≡ n.traffic old) ⊎ (n.traffic new ≡ option_map hung_up (n.traffic old))
   pub link : IsErrOf r stops.Link → n.doors old < n.doors new
+  pub link_ends : n.doors old < n.doors new → IsErrOf r stops.Link
   pub doors_later : n.doors old ≤ n.doors new
   pub lines : n.lines new ≡ n.lines old
 
@@ -55,6 +56,7 @@ pub record Answers {K N C : Type 0} (k : KeeperGhosts K) (n : NetGhosts N) (c : 
   pub disk : IsErrOf r stops.Disk → k.faults old.keeper < k.faults new.keeper
   pub disk_later : k.faults old.keeper ≤ k.faults new.keeper
   pub clock : IsErrOf r stops.Clock → c.faults clock_before < c.faults clock_after
+  pub clock_ends : c.faults clock_before < c.faults clock_after → IsErrOf r stops.Clock
   pub clock_later : c.faults clock_before ≤ c.faults clock_after
   -- a call failed in the connection only where that ended it
   pub fails : IfOk r (λ s. Fails s.end (n.lines net) (n.lines net_after))
@@ -84,6 +86,10 @@ pub record Goes {K N C S : Type 0} (k : KeeperGhosts K) (n : NetGhosts N) (c : C
   pub clock_later : c.faults old.clock ≤ c.faults new.clock
   pub write : IsErrOf r stops.Write → s.faults old.sink < s.faults new.sink
   pub sink_later : s.faults old.sink ≤ s.faults new.sink
+  -- a call of a door, of the clock or of the sink that failed has ended it so
+  pub link_ends : n.doors old.net < n.doors new.net → IsErrOf r stops.Link
+  pub clock_ends : c.faults old.clock < c.faults new.clock → IsErrOf r stops.Clock
+  pub write_ends : s.faults old.sink < s.faults new.sink → IsErrOf r stops.Write
 
 -- the connection of this number is served
 abbrev pub ServesOne :

@@ -1,6 +1,6 @@
 -- A server's connections: where it stands between two of them, and what each comes to.
-use Rattle.std.specs.Prelude.{◌≡◌, ◌⊎◌, ℕ, zero, suc, ◌<◌, ◌≤◌, List, [], ◌∷◌, ◌++◌, take}
-use Rattle.adr_outside.specs.Traffic.{Traffic, closed, hung_up}
+use Rattle.std.specs.Prelude.{◌≡◌, ◌⊎◌, ℕ, zero, suc, ◌<◌, List, [], ◌∷◌, ◌++◌, take}
+use Rattle.adr_outside.specs.Traffic.{IsShort, Traffic, closed, hung_up}
 use Rattle.adr_model.specs.Store.{State}
 use Rattle.adr_law_journal.specs.Areas.{Found, Started}
 use Rattle.adr_law_journal.specs.Kept.{FindsState}
@@ -26,14 +26,15 @@ done p = (hung_up p.net).done
 abbrev pub opened : Post → List ℕ → Point
 opened p came = record { stands = p.stands; moments = p.moments; left = came; sent = [] }
 
--- Behind so many messages a connection ended so, where the node stood at q, and this was sent. A fault of the line may have come
--- when the next message was done, and then a front of its answer was sent.
+-- Behind so many messages a connection ended so, where the node stood at q, and this was sent. A fault of the line came behind fewer
+-- than a connection may have. It may have come when the next message was done, and then a front of its answer was sent, not all.
 abbrev pub Comes : Point → ℕ → End → Point → List ℕ → Type 0
 Comes p n ended.Hung q sent = (talk message_limit p ≡ (q, n, Hung)) × (sent ≡ q.sent)
 Comes p n ended.Malformed q sent = (talk message_limit p ≡ (q, n, Malformed)) × (sent ≡ q.sent)
 Comes p n ended.Limit q sent = (talk message_limit p ≡ (q, n, Limit)) × (sent ≡ q.sent)
 Comes p n ended.Fault q sent =
-    (r : Point) × Reaches n p r × IsNear r q × ((due : List ℕ) × (count : ℕ) × (q.sent ≡ r.sent ++ due) × (sent ≡ r.sent ++ take count due))
+    (n < message_limit) × (r : Point) × Reaches n p r × IsNear r q
+    × ((due : List ℕ) × (count : ℕ) × (q.sent ≡ r.sent ++ due) × IsShort count due × (sent ≡ r.sent ++ take count due))
 
 -- so many calls had failed in connections before one, and so many behind it: one failed in it just where it ended as a fault
 abbrev pub Fails : End → ℕ → ℕ → Type 0
@@ -66,6 +67,7 @@ FindsFrom p s =
     FindsState p.stands.state s
     ⊎ ((came : List ℕ) × (rest : List (List ℕ)) × (p.net.waiting ≡ came ∷ rest) × FindsBehind (opened p came) s)
 
--- the same behind some of so many connections
+-- the same behind some of so many connections; behind the last, where the node stands
 abbrev pub FindsWithin : ℕ → Post → Started State → Type 0
-FindsWithin count p s = (n : ℕ) × (q : Post) × (n ≤ count) × Behind n p q × FindsFrom q s
+FindsWithin count p s =
+    (n : ℕ) × (q : Post) × Behind n p q × (((n < count) × FindsFrom q s) ⊎ ((n ≡ count) × FindsState q.stands.state s))

@@ -1,5 +1,5 @@
 -- What a pull does over the controller on a disk.
-use Rattle.std.specs.Prelude.{◌≡◌, ◌⊎◌, ◌<◌, ◌≤◌, ◌+◌, ℕ, List, [], ◌∷◌, Option, Some, None, IfSome, IsSome, Result, Ok, Err}
+use Rattle.std.specs.Prelude.{◌≡◌, ◌⊎◌, ◌<◌, ◌≤◌, ℕ, List, [], ◌∷◌, IfSome, IsSome, Result, Ok, Err}
 use Rattle.adr_io.specs.declared.Sink.{Ghosts as SinkGhosts}
 use Rattle.adr_disk.specs.Disk.{Among, LeavesOnly}
 use Rattle.adr_outside.specs.declared.net.Net.{Ghosts as NetGhosts}
@@ -11,11 +11,11 @@ use Rattle.adr_node.specs.Begins.{Begun, EndsUnbegun, StandsOn}
 use Rattle.adr_node.specs.Seen.{Seen, of_keeper}
 use Rattle.adr_node.specs.declared.ended.Unbegun.{Unbegun}
 use Rattle.adr_node.specs.declared.ended.Unbegun.TheVariants as unbegun
-use Rattle.adr_pull.specs.Fetch.{BadPeer, Course, Ends, Over, Point, Refused, pulled, reply_limit}
-use Rattle.adr_pull.specs.Told.{FindsBehind, FindsNear, IsBetween, Within}
+use Rattle.adr_pull.specs.Fetch.{Course, Point, exchange_limit, pulled}
+use Rattle.adr_pull.specs.Told.{FindsBehind, FindsNear, Goes}
 use Rattle.adr_pull.specs.declared.fault.PullFault.{PullFault}
 use Rattle.adr_pull.specs.declared.fault.PullFault.TheVariants as faults
-use Rattle.adr_online.specs.Dialled.{HasDone, IsAt, Outside, Post}
+use Rattle.adr_online.specs.Dialled.{FailsToOpen, HasDone, IsAt, Outside, Post, outside_of}
 use Rattle.adr_online.specs.declared.ended.Pulled.{Pulled}
 use Rattle.adr_online.specs.declared.ended.Pulled.TheVariants as pulls
 
@@ -24,9 +24,6 @@ pub record Hands (D N S : Type 0) : Type 0 where
   pub disk : D
   pub net : N
   pub sink : S
-
-abbrev pub outside_of : {D N S : Type 0} → NetGhosts N → SinkGhosts S → Hands D N S → Outside
-outside_of n k h = record { net = n.traffic h.net; lines = k.written h.sink }
 
 -- a start finds the state at the one point or the other
 abbrev pub FallsOn : {D : Type 0} → Seen D → D → Point → Point → Type 0
@@ -42,37 +39,6 @@ met_at f p came = record { stands = f; left = came; sent = []; written = p.writt
 abbrev pub goes : List ℕ → Found State → Post → List ℕ → ℕ → Course
 goes name f p came n = pulled name n (met_at f p came)
 
--- it has ended so
-abbrev pub EndsSo : (Found State → Type 0) → Post → List (List ℕ) → Course → Option Ends → Outside → Type 0
-EndsSo at p rest course ends o = (course.1 ≡ ends) × at course.0.stands × HasDone p rest course.0.sent course.0.written o
-
--- between one point and the next: a front of what is sent was sent, and nothing else was done
-abbrev pub IsAsking : (Found State → Type 0) → Post → List (List ℕ) → Point → Point → Outside → Type 0
-IsAsking at p rest a b o = at a.stands × ((sent : List ℕ) × IsBetween a.sent sent b.sent × HasDone p rest sent a.written o)
-
--- all was done, but for a part of the line
-abbrev pub IsTelling : (Found State → Type 0) → Post → List (List ℕ) → Point → Point → Outside → Type 0
-IsTelling at p rest a b o = at b.stands × ((told : List ℕ) × IsBetween a.written told b.written × HasDone p rest b.sent told o)
-
--- all was sent, and a call of the disk failed
-abbrev pub HasFailed : (Point → Point → Type 0) → Post → List (List ℕ) → Point → Point → Outside → Type 0
-HasFailed fallen p rest a b o = fallen a b × HasDone p rest b.sent a.written o
-
--- the most exchanges of a cycle: its greeting, and so many replies
-abbrev pub exchange_limit : ℕ
-exchange_limit = reply_limit + 1
-
-abbrev pub Cycles : (Found State → Type 0) → (Point → Point → Type 0) → Post → List (List ℕ) → (ℕ → Course) → Pulled → Outside → Type 0
-Cycles at fallen p rest go pulls.Done o = EndsSo at p rest (go exchange_limit) (Some Over) o
-Cycles at fallen p rest go pulls.Refused o = EndsSo at p rest (go exchange_limit) (Some Refused) o
-Cycles at fallen p rest go pulls.BadPeer o = EndsSo at p rest (go exchange_limit) (Some BadPeer) o
-Cycles at fallen p rest go pulls.MoreWaiting o = EndsSo at p rest (go exchange_limit) None o
-Cycles at fallen p rest go pulls.LinkFault o = Within go (λ a b. IsAsking at p rest a b o)
-Cycles at fallen p rest go pulls.WriteFault o = Within go (λ a b. IsTelling at p rest a b o)
-Cycles at fallen p rest go pulls.NoMemory o = Within go (λ a b. IsAsking at p rest a b o ⊎ IsTelling at p rest a b o)
-Cycles at fallen p rest go pulls.DiskFault o = Within go (λ a b. HasFailed fallen p rest a b o)
-Cycles at fallen p rest go (pulls.Damaged place) o = ⊥
-
 -- how a cycle over a connection ended
 abbrev pub as_pulled : Result Unit PullFault → Pulled
 as_pulled (Ok _) = pulls.Done
@@ -84,9 +50,16 @@ as_pulled (Err faults.Refused) = pulls.Refused
 as_pulled (Err faults.MoreWaiting) = pulls.MoreWaiting
 as_pulled (Err faults.BadPeer) = pulls.BadPeer
 
--- no connection was opened: nothing was sent or written
+-- no connection was opened, since a call of a door failed or memory was wanting: nothing was sent or written
 abbrev pub IsUnconnected : (Found State → Type 0) → Found State → Post → Pulled → Outside → Type 0
-IsUnconnected at f p how o = ((how ≡ pulls.LinkFault) ⊎ (how ≡ pulls.NoMemory)) × at f × IsAt p o
+IsUnconnected at f p how o =
+    at f × (((how ≡ pulls.LinkFault) × FailsToOpen p o) ⊎ ((how ≡ pulls.NoMemory) × IsAt p o))
+
+-- a cycle went over the next connection, behind which these wait; where that ended as its fault, a call failed in it
+abbrev pub Cycles : (Found State → Type 0) → (Point → Point → Type 0) → Post → List (List ℕ) → (ℕ → Course) → Pulled → Outside → Type 0
+Cycles at fallen p rest go how o =
+    (result : Result Unit PullFault) × (how ≡ as_pulled result) × (result ≡ Err faults.Link → p.faults < o.faults)
+    × Goes at fallen (HasDone p rest o) go exchange_limit result
 
 abbrev pub PullsFrom : (Found State → Type 0) → (Point → Point → Type 0) → List ℕ → Found State → Post → Pulled → Outside → Type 0
 PullsFrom at fallen name f p how o =
@@ -110,19 +83,20 @@ IsUnpulled d k found old new how =
 -- what was done with what a start found
 abbrev pub Does : {D N S : Type 0} → Seen D → NetGhosts N → SinkGhosts S → List ℕ → Started State → Hands D N S → Hands D N S → Pulled → Type 0
 Does d n k name (Ok f) old new how =
-    (p : Post) → IsAt p (outside_of n k old) → PullsFrom (StandsOn d new.disk) (FallsOn d new.disk) name f p how (outside_of n k new)
+    (p : Post) → IsAt p (outside_of n k old.net old.sink)
+    → PullsFrom (StandsOn d new.disk) (FallsOn d new.disk) name f p how (outside_of n k new.net new.sink)
 Does d n k name (Err place) old new how = ⊥
 
 -- where the node stands behind some of the exchanges
 abbrev pub FindsPulled : List ℕ → Found State → Post → Started State → Type 0
 FindsPulled name f p s =
-    (came : List ℕ) × (rest : List (List ℕ)) × (p.waiting ≡ came ∷ rest) × FindsBehind (goes name f p came) s
+    (came : List ℕ) × (rest : List (List ℕ)) × (p.waiting ≡ came ∷ rest) × FindsBehind (goes name f p came) exchange_limit s
 
 -- what a start may find behind a crash at any moment of the command: what it might have found before, or where the node stood
 -- behind some of the replies
 abbrev pub LeavesSo : {D N S : Type 0} → Seen D → NetGhosts N → SinkGhosts S → List ℕ → Started State → Hands D N S → Hands D N S → Type 0
 LeavesSo d n k name (Ok f) old new =
-    (p : Post) → IsAt p (outside_of n k old)
+    (p : Post) → IsAt p (outside_of n k old.net old.sink)
     → LeavesOnly d.moment d.left_since old.disk new.disk (λ s. d.may_leave old.disk s ⊎ FindsPulled name f p s)
 LeavesSo d n k name (Err place) old new = LeavesOnly d.moment d.left_since old.disk new.disk (d.may_leave old.disk)
 
@@ -144,6 +118,9 @@ pub record Pulls {D N S : Type 0} (d : Seen D) (n : NetGhosts N) (k : SinkGhosts
   pub disk_later : d.faults old.disk ≤ d.faults new.disk
   pub doors_later : n.doors old.net ≤ n.doors new.net
   pub lines_later : n.lines old.net ≤ n.lines new.net
+  -- and no call of the network failed where it ended otherwise
+  pub doors_only : (how ≡ pulls.LinkFault → ⊥) → n.doors new.net ≡ n.doors old.net
+  pub lines_only : (how ≡ pulls.LinkFault → ⊥) → n.lines new.net ≡ n.lines old.net
 
 -- into a controller, whatever keeper it was started from
 abbrev pub PullsOn : {K N S : Type 0} → KeeperGhosts K → NetGhosts N → SinkGhosts S → List ℕ → Running K → K → N → N → S → S → Pulled → Type 0

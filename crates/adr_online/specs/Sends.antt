@@ -9,15 +9,11 @@ use Rattle.adr_schedule.specs.Telling.{fault_line}
 use Rattle.adr_schedule.specs.declared.fault.ScheduleFault.{ScheduleFault}
 use Rattle.adr_pull.specs.declared.fault.SendFault.{SendFault}
 use Rattle.adr_pull.specs.declared.fault.SendFault.TheVariants as faults
-use Rattle.adr_pull.specs.Sending.{Place, Within, converse, spoken}
-use Rattle.adr_pull.specs.Told.{IsBetween}
-use Rattle.adr_online.specs.Dialled.{HasDone, IsAt, Outside, Post}
+use Rattle.adr_pull.specs.Sending.{Place, Sends as SendsLines, spoken}
+use Rattle.adr_online.specs.Dialled.{FailsToOpen, HasDone, IsAt, Outside, Post, outside_of}
 use Rattle.adr_online.specs.Texts.{fault_in}
 use Rattle.adr_online.specs.declared.ended.Sent.{Sent}
 use Rattle.adr_online.specs.declared.ended.Sent.TheVariants as sends
-
-abbrev pub outside_of : {N K : Type 0} → NetGhosts N → SinkGhosts K → N → K → Outside
-outside_of n k net sink = record { net = n.traffic net; lines = k.written sink }
 
 -- how the command ends, by how its lines were sent
 abbrev pub ended : Result Bool SendFault → Sent
@@ -32,32 +28,20 @@ ended (Err faults.BadPeer) = sends.BadPeer
 abbrev pub place_at : Post → List ℕ → Place
 place_at p came = record { left = came; sent = []; written = p.written; accepted = true }
 
--- a front of the next line was sent
-abbrev pub IsSaying : Post → List (List ℕ) → Place → Place → Outside → Type 0
-IsSaying p rest a b o = (sent : List ℕ) × IsBetween a.sent sent b.sent × HasDone p rest sent a.written o
+-- no connection was opened, since a call of a door failed or memory was wanting: nothing was sent or written
+abbrev pub IsUnconnected : Post → Sent → Outside → Type 0
+IsUnconnected p how o = ((how ≡ sends.LinkFault) × FailsToOpen p o) ⊎ ((how ≡ sends.NoMemory) × IsAt p o)
 
--- a line was answered, and a front of that written
-abbrev pub IsTelling : Post → List (List ℕ) → Place → Place → Outside → Type 0
-IsTelling p rest a b o = (told : List ℕ) × IsBetween a.written told b.written × HasDone p rest b.sent told o
+-- lines were sent over the next connection, behind which these wait; where that ended as its fault, a call failed in it
+abbrev pub SendsOver : Post → List (List ℕ) → Place → List (List ℕ) → Sent → Outside → Type 0
+SendsOver p rest a lines how o =
+    (result : Result Bool SendFault) × (how ≡ ended result) × (result ≡ Err faults.Link → p.faults < o.faults)
+    × SendsLines (λ b. HasDone p rest o b.sent b.written) (HasDone p rest o) a lines result
 
--- what lines come to, from a place
-abbrev pub Converses : Post → List (List ℕ) → Place → List (List ℕ) → Sent → Outside → Type 0
-Converses p rest a lines sends.Done o =
-    let b = converse lines a in (b.1 ≡ false) × (b.0.accepted ≡ true) × HasDone p rest b.0.sent b.0.written o
-Converses p rest a lines sends.Refused o =
-    let b = converse lines a in (b.1 ≡ false) × (b.0.accepted ≡ false) × HasDone p rest b.0.sent b.0.written o
-Converses p rest a lines sends.BadPeer o = let b = converse lines a in (b.1 ≡ true) × HasDone p rest b.0.sent b.0.written o
-Converses p rest a lines sends.LinkFault o = Within lines a (λ x y. IsSaying p rest x y o)
-Converses p rest a lines sends.WriteFault o = Within lines a (λ x y. IsTelling p rest x y o)
-Converses p rest a lines sends.NoMemory o = Within lines a (λ x y. IsSaying p rest x y o ⊎ IsTelling p rest x y o)
-Converses p rest a lines sends.BadText o = ⊥
-Converses p rest a lines sends.ReadFault o = ⊥
-
--- lines were sent from a post; or no connection was opened, and nothing was sent or written
 abbrev pub SendsFrom : Post → List (List ℕ) → Sent → Outside → Type 0
 SendsFrom p lines how o =
-    (((how ≡ sends.LinkFault) ⊎ (how ≡ sends.NoMemory)) × IsAt p o)
-    ⊎ ((came : List ℕ) × (rest : List (List ℕ)) × (p.waiting ≡ came ∷ rest) × Converses p rest (place_at p came) lines how o)
+    IsUnconnected p how o
+    ⊎ ((came : List ℕ) × (rest : List (List ℕ)) × (p.waiting ≡ came ∷ rest) × SendsOver p rest (place_at p came) lines how o)
 
 -- the fault of a text is written, or a front of that
 abbrev pub TellsFault : {K : Type 0} → SinkGhosts K → ScheduleFault → K → K → Sent → Type 0
@@ -91,6 +75,8 @@ pub record SendsText {N K : Type 0} (n : NetGhosts N) (k : SinkGhosts K) (text :
   pub sink_later : k.faults sink ≤ k.faults sink_after
   pub doors_later : n.doors net ≤ n.doors net_after
   pub lines_later : n.lines net ≤ n.lines net_after
+  pub doors_only : (how ≡ sends.LinkFault → ⊥) → n.doors net_after ≡ n.doors net
+  pub lines_only : (how ≡ sends.LinkFault → ⊥) → n.lines net_after ≡ n.lines net
 
 -- this text was read: what the source has left, where it tells that, but no more than a text may have and one byte
 abbrev pub IsRead : {S : Type 0} → SourceGhosts S → List ℕ → S → S → Type 0
@@ -118,3 +104,6 @@ pub record Sends {S N K : Type 0} (s : SourceGhosts S) (n : NetGhosts N) (k : Si
   pub sink_later : k.faults sink ≤ k.faults sink_after
   pub doors_later : n.doors net ≤ n.doors net_after
   pub lines_later : n.lines net ≤ n.lines net_after
+  -- and no call of the network failed where it ended otherwise
+  pub doors_only : (how ≡ sends.LinkFault → ⊥) → n.doors net_after ≡ n.doors net
+  pub lines_only : (how ≡ sends.LinkFault → ⊥) → n.lines net_after ≡ n.lines net

@@ -8,9 +8,9 @@ use Rattle.adr_law_journal.specs.Areas.{Found}
 use Rattle.adr_journal.specs.declared.keeper.Keeper.{Ghosts as KeeperGhosts}
 use Rattle.adr_controller.specs.Running.{Running}
 use Rattle.adr_outside.specs.Traffic.{Traffic, closed, hung_up}
-use Rattle.adr_session.specs.Talk.{Point, Reaches}
+use Rattle.adr_session.specs.Talk.{Point, Reaches, message_limit}
 use Rattle.adr_law_controller.specs.Keeping.{Stands}
-use Rattle.adr_session.specs.Told.{FindsNear, IsAtLine, IsNear}
+use Rattle.adr_session.specs.Told.{FindsNear, IsAtLine, IsNear, IsTimedBehind, IsTimedNear}
 use Rattle.adr_session.specs.declared.ending.Served.{Served}
 use Rattle.adr_session.specs.declared.ending.ServeFault.{ServeFault}
 use Rattle.adr_session.specs.declared.ending.ServeFault.TheVariants as faults
@@ -47,15 +47,18 @@ pub record IsTelling (p q : Post) (o : Outside) : Type 0 where
   pub count : ℕ
   pub lines : o.lines ≡ Some (p.written ++ take count line)
 
--- The next connection was hung up behind some of its messages, at the point x. What was sent in it are the answers to these,
--- no call failed in it, and no line was written.
+-- the connection in which this came was hung up at the point x, behind fewer messages than it may have, whose answers were sent in it
+abbrev pub HangsUp : Post → List ℕ → List (List ℕ) → ℕ → Point → Option Traffic → Type 0
+HangsUp p came rest n x net =
+    (n < message_limit) × Reaches n (opened p came) x × (net ≡ Some (closed rest (done p ++ x.sent ∷ [])))
+
+-- the next connection was hung up so, no call failed in it, and no line was written
 pub record IsHungUp (p : Post) (x : Point) (o : Outside) : Type 0 where
   pub came : List ℕ
   pub rest : List (List ℕ)
   pub opens : p.net.waiting ≡ came ∷ rest
   pub count : ℕ
-  pub reaches : Reaches count (opened p came) x
-  pub net : o.net ≡ Some (closed rest (done p ++ x.sent ∷ []))
+  pub hangs : HangsUp p came rest count x o.net
   pub lines : o.lines ≡ Some p.written
   pub faults : o.faults ≡ p.faults
 
@@ -68,13 +71,11 @@ AnswersAll k before p came rest (Ok s) c net clock =
     (r : Point) × (sent : List ℕ) × Comes (opened p came) s.messages s.end r sent × Stands k r.stands c
     × (net ≡ Some (closed rest (done p ++ sent ∷ []))) × (clock ≡ Some r.moments)
 AnswersAll k before p came rest (Err stops.Disk) c net clock =
-    (x : Point) × (n : ℕ) × Reaches n (opened p came) x × (net ≡ Some (closed rest (done p ++ x.sent ∷ []))) × HasFallen k before x c
+    (x : Point) × (n : ℕ) × HangsUp p came rest n x net × HasFallen k before x c × IsTimedBehind x clock
 AnswersAll k before p came rest (Err stops.Clock) c net clock =
-    (x : Point) × (n : ℕ) × Reaches n (opened p came) x × (net ≡ Some (closed rest (done p ++ x.sent ∷ []))) × IsAtLine x
-    × Stands k x.stands c × (clock ≡ Some x.moments)
+    (x : Point) × (n : ℕ) × HangsUp p came rest n x net × IsAtLine x × Stands k x.stands c × (clock ≡ Some x.moments)
 AnswersAll k before p came rest (Err stops.NoMemory) c net clock =
-    (x : Point) × (n : ℕ) × Reaches n (opened p came) x × (net ≡ Some (closed rest (done p ++ x.sent ∷ [])))
-    × ((y : Point) × IsNear x y × Stands k y.stands c)
+    (x : Point) × (n : ℕ) × HangsUp p came rest n x net × IsTimedNear x clock × ((y : Point) × IsNear x y × Stands k y.stands c)
 AnswersAll k before p came rest (Err stops.Write) c net clock = ⊥
 AnswersAll k before p came rest (Err stops.Link) c net clock = ⊥
 
@@ -101,12 +102,12 @@ IsUnopened p o = IsAt p o ⊎ IsAt (record p { net = hung_up p.net }) o
 abbrev pub StopsAt : (Found State → Type 0) → (Point → Type 0) → ℕ → Post → Stop → Outside → Type 0
 StopsAt at fallen number p stops.Link o = at p.stands × IsUnopened p o
 StopsAt at fallen number p stops.Write o = (q : Post) × Connects number p q × at q.stands × IsTelling p q o
-StopsAt at fallen number p stops.Disk o = (x : Point) × IsHungUp p x o × fallen x
+StopsAt at fallen number p stops.Disk o = (x : Point) × IsHungUp p x o × fallen x × IsTimedBehind x o.clock
 StopsAt at fallen number p stops.Clock o = (x : Point) × IsHungUp p x o × IsAtLine x × at x.stands × (o.clock ≡ Some x.moments)
 StopsAt at fallen number p stops.NoMemory o =
     (at p.stands × IsAt p o)
-    ⊎ (((x : Point) × (y : Point) × IsHungUp p x o × IsNear x y × at y.stands)
-    ⊎ ((q : Post) × Connects number p q × at q.stands × IsTelling p q o))
+    ⊎ (((x : Point) × (y : Point) × IsHungUp p x o × IsTimedNear x o.clock × IsNear x y × at y.stands)
+    ⊎ ((q : Post) × Connects number p q × at q.stands × IsAt (record q { written = p.written }) o))
 
 -- the next connection
 abbrev pub ServesNext : (Found State → Type 0) → (Point → Type 0) → ℕ → Post → Result Unit Stop → Outside → Type 0

@@ -106,6 +106,10 @@ pub record Serves {D N C S : Type 0} (d : Seen D) (n : NetGhosts N) (c : ClockGh
   pub doors_later : n.doors old.net ≤ n.doors new.net
   pub lines_later : n.lines old.net ≤ n.lines new.net
   pub clock_later : c.faults old.clock ≤ c.faults new.clock
+  -- a call of a door, of the clock or of the sink that failed has ended it so
+  pub link_ends : n.doors old.net < n.doors new.net → how ≡ online.LinkFault
+  pub clock_ends : c.faults old.clock < c.faults new.clock → how ≡ online.ClockFault
+  pub write_ends : k.faults old.sink < k.faults new.sink → how ≡ online.WriteFault
 
 -- from a controller, whatever keeper it was started from
 abbrev pub ServesOn : {K N C S : Type 0} → KeeperGhosts K → NetGhosts N → ClockGhosts C → SinkGhosts S → ℕ → Server K N C S → K → N → C → S → Online → Type 0

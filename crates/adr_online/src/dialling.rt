@@ -19,6 +19,8 @@ pub(crate) fn connect<N: Net>(port: u16, net: &mut N) -> Result<(), Unconnected>
     ensures opens { OnOk result (IfSome (N.traffic net.old) (λ before. Opens before (N.traffic net.new))) }
     ensures closed { OnErr result (option_map hung_up (N.traffic net.new) ≡ option_map hung_up (N.traffic net.old)) }
     ensures failed { IsErrOf result Unconnected.Link → N.doors net.old < N.doors net.new }
+    ensures passed { OnOk result (N.doors net.new ≡ N.doors net.old) }
+    ensures no_memory { IsErrOf result Unconnected.NoMemory → N.doors net.new ≡ N.doors net.old }
     ensures never_falls { N.doors net.old ≤ N.doors net.new }
     ensures lines { N.lines net.new ≡ N.lines net.old }
 {

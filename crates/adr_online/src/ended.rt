@@ -15,14 +15,14 @@ pub(crate) enum Stop {
 pub enum Online {
     /// As many connections were served as were asked for.
     Done,
-    /// A line couldn't be written. Its connection was served.
+    /// A line couldn't be written: that of a connection, which was served, or that of the damage.
     WriteFault,
-    /// A call of the disk failed. The message that met it isn't answered, and a start finds the controller before it or
+    /// A call of the disk failed. If a message met it, that isn't answered, and a start finds the controller before it or
     /// behind it.
     DiskFault,
     /// It couldn't listen, or a connection couldn't be accepted.
     LinkFault,
-    /// Memory was wanting. The message that met it isn't answered.
+    /// Memory was wanting. If a message met it, that isn't answered.
     NoMemory,
     /// The bytes of the disk are no log; the place of their first fault, in bytes. That is written.
     Damaged { place: u64 },
@@ -35,9 +35,9 @@ pub enum Online {
 pub enum Pulled {
     /// All that the partner had to give was taken.
     Done,
-    /// A line couldn't be written. Its reply was taken and is kept.
+    /// A line couldn't be written: that of a reply, which was taken and is kept, that of a refusal, or that of the damage.
     WriteFault,
-    /// A call of the disk failed. A start finds the controller before the last reply or behind it.
+    /// A call of the disk failed. If a reply met it, a start finds the controller before it or behind it.
     DiskFault,
     /// It couldn't connect, or a call of the connection failed. What was taken before is kept.
     LinkFault,
@@ -64,7 +64,7 @@ pub enum Sent {
     ReadFault,
     /// A line couldn't be written.
     WriteFault,
-    /// It couldn't connect, or a call of the connection failed. The last line may have been done or not.
+    /// It couldn't connect, or a call of the connection failed. The last line may have been done, may yet be, or not.
     LinkFault,
     /// Memory was wanting.
     NoMemory,

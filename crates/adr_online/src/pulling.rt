@@ -8,7 +8,7 @@ ghost use Rattle.adr_controller.specs.Running.{IsInOrder};
 ghost use Rattle.adr_law_controller.specs.Keeping.{KeepsLog, Stands};
 ghost use Rattle.adr_pull.specs.Told.{HasFallen};
 ghost use Rattle.adr_node.specs.Seen.{of_disk};
-ghost use Rattle.adr_online.specs.Dialled.{IsAt, Post};
+ghost use Rattle.adr_online.specs.Dialled.{IsAt, Post, outside_of};
 ghost use Rattle.adr_online.specs.Pulls.{FindsPulled, Pulls, PullsFrom, PullsOn, as_pulled, unpulled};
 
 use crate::dialling::{Unconnected, connect};
@@ -63,12 +63,12 @@ fn pull_up<K: Keeper, N: Net, S: Sink>(
     requires up { IsSome controller.old.state }
     requires log { KeepsLog K.Keeper }
     ensures pulls { (f : Found Defined) (p : Post) → Stands K.Keeper f controller.old
-        → IsAt p (record { net = N.traffic net.old; lines = S.written sink.old })
+        → IsAt p (outside_of N.Net S.Sink net.old sink.old)
         → PullsFrom (λ g. Stands K.Keeper g controller.new)
         (λ a b. HasFallen K.Keeper a.stands.state b.stands.state controller.new) name.now f p result
-        (record { net = N.traffic net.new; lines = S.written sink.new }) }
+        (outside_of N.Net S.Sink net.new sink.new) }
     ensures any_moment { (f : Found Defined) (p : Post) → Stands K.Keeper f controller.old
-        → IsAt p (record { net = N.traffic net.old; lines = S.written sink.old })
+        → IsAt p (outside_of N.Net S.Sink net.old sink.old)
         → IfSome (K.told controller.old.keeper) (λ _.
         LeavesOnly K.moment K.left_since controller.old.keeper controller.new.keeper
         (λ s. K.may_leave controller.old.keeper s ⊎ FindsPulled name.now f p s)) }
@@ -82,6 +82,8 @@ fn pull_up<K: Keeper, N: Net, S: Sink>(
     ensures disk_never_falls { K.faults controller.old.keeper ≤ K.faults controller.new.keeper }
     ensures doors_never_fall { N.doors net.old ≤ N.doors net.new }
     ensures lines_never_fall { N.lines net.old ≤ N.lines net.new }
+    ensures doors_only { (result ≡ Pulled.LinkFault → ⊥) → N.doors net.new ≡ N.doors net.old }
+    ensures lines_only { (result ≡ Pulled.LinkFault → ⊥) → N.lines net.new ≡ N.lines net.old }
 {
     let _ = controller.state();
     match connect(port, net) {
@@ -113,8 +115,8 @@ fn pull_into<K: Keeper, N: Net, S: Sink>(
 }
 
 /// Starts the controller on the disk of this name, connects to a port of this machine, and takes a cycle of the node there:
-/// at most 1,000,000 replies of at most 1,000 items each, until one is the last. For each it writes the line of a delivery.
-/// The disk is attached, and comes back.
+/// it sends requests for at most 1,000 items each and takes the replies, at most 1,000,000, until one is the last. For each
+/// it writes the line of a delivery. The disk is attached, and comes back.
 pub fn pull<D: Disk, N: Net, S: Sink>(
     alloc: Global,
     name: &Text,

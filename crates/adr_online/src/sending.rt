@@ -2,8 +2,8 @@
 
 ghost use Rattle.std.specs.Prelude.{◌≡◌, ◌⊎◌, ◌<◌, ◌≤◌};
 ghost use Rattle.adr_pull.specs.Sending.{spoken};
-ghost use Rattle.adr_online.specs.Dialled.{IsAt, Post};
-ghost use Rattle.adr_online.specs.Sends.{Sends, SendsFrom, SendsText, TellsFault, ended, outside_of};
+ghost use Rattle.adr_online.specs.Dialled.{IsAt, Post, outside_of};
+ghost use Rattle.adr_online.specs.Sends.{Sends, SendsFrom, SendsText, TellsFault, ended};
 
 use crate::checking::fault_in;
 use crate::dialling::{Unconnected, connect};
@@ -61,6 +61,8 @@ fn send_lines<N: Net, K: Sink>(
     ensures sink_later { K.faults sink.old ≤ K.faults sink.new }
     ensures doors_later { N.doors net.old ≤ N.doors net.new }
     ensures lines_later { N.lines net.old ≤ N.lines net.new }
+    ensures doors_only { (result ≡ Sent.LinkFault → ⊥) → N.doors net.new ≡ N.doors net.old }
+    ensures lines_only { (result ≡ Sent.LinkFault → ⊥) → N.lines net.new ≡ N.lines net.old }
 {
     match connect(port, net) {
         Ok(()) => {}

@@ -49,8 +49,10 @@ pub(crate) fn tell<S: Sink>(
     ensures front { OnErr result (AddsFront (S.written sink.old) (S.written sink.new)
         (connection_line number served.messages served.end)) }
     ensures only { IfErr result (λ stop. (stop ≡ Stop.Write) ⊎ (stop ≡ Stop.NoMemory)) }
+    ensures unwritten { IsErrOf result Stop.NoMemory → S.written sink.new ≡ S.written sink.old }
     ensures never_falls { S.faults sink.old ≤ S.faults sink.new }
     ensures write { IsErrOf result Stop.Write → S.faults sink.old < S.faults sink.new }
+    ensures write_ends { S.faults sink.old < S.faults sink.new → IsErrOf result Stop.Write }
 {
     let Ok(line) = connection_line(alloc, number, served) else {
         return Err(Stop::NoMemory);

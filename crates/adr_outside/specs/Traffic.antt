@@ -1,5 +1,5 @@
 -- What is told of a network: what comes in its connections, and what was sent in them.
-use Rattle.std.specs.Prelude.{◌≡◌, ℕ, ◌≤◌, List, [], ◌∷◌, ◌++◌, Bool, true, false, take, drop, length, Option, Some, if◌then◌else◌}
+use Rattle.std.specs.Prelude.{◌≡◌, ◌⊎◌, ℕ, ◌<◌, ◌≤◌, List, [], ◌∷◌, ◌++◌, Bool, true, false, take, drop, length, Option, Some, if◌then◌else◌}
 
 pub record Traffic : Type 0 where
   pub waiting : List (List ℕ)  -- what comes in each connection that isn't opened yet, in order
@@ -37,6 +37,10 @@ pub record Receives (before : Traffic) (after : Option Traffic) (buffer : List �
 abbrev pub Sends : Traffic → Option Traffic → List ℕ → Type 0
 Sends before after bytes = (before.is_open ≡ true) × (after ≡ Some (record before { sent = before.sent ++ bytes }))
 
--- a front of them was sent
+-- so many bytes are fewer than all of these, or none
+abbrev pub IsShort : ℕ → List ℕ → Type 0
+IsShort n bytes = (n ≡ 0) ⊎ (n < length bytes)
+
+-- a front of them was sent, and not all
 abbrev pub SendsFront : Traffic → Option Traffic → List ℕ → Type 0
-SendsFront before after bytes = (n : ℕ) × (after ≡ Some (record before { sent = before.sent ++ take n bytes }))
+SendsFront before after bytes = (n : ℕ) × IsShort n bytes × (after ≡ Some (record before { sent = before.sent ++ take n bytes }))

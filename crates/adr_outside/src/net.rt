@@ -60,7 +60,8 @@ pub trait Net {
         ensures no_memory_only { IsErrOf result Fault.NoMemory → lines self.old ≡ 2 ^ 64 - 1 }
         ensures counts { IsCounted (lines self.old) (lines self.new) (doors self.old) (doors self.new) result };
 
-    /// Sends all of the bytes in the open connection, or fails after a front of them. Where none is open it fails.
+    /// Sends all of the bytes in the open connection, or fails behind a front of them that isn't all. Where none is open it
+    /// fails.
     fn send(&mut self, bytes: &[u8]) -> Result<(), Fault>
         ensures sent { OnOk result (IfSome (traffic self.old) (λ before. Sends before (traffic self.new) bytes.now)) }
         ensures front { OnErr result (IfSome (traffic self.old) (λ before.

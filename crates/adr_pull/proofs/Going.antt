@@ -1,5 +1,5 @@
 -- A cycle, by how its last request came out.
-use Rattle.std.proofs.Common.{◌≡◌, ◌⊎◌, inl, inr, ⊎_elim, ℕ, zero, suc, ◌+◌, ◌<◌, Bool, true, false, List, ◌++◌, take, length, Option, Some, None, IfSome, IsSome, Result, Ok, Err, refl, sym, ap, ◌∙◌, subst, arith, take_all}
+use Rattle.std.proofs.Common.{◌≡◌, ◌⊎◌, inl, inr, ⊎_elim, ℕ, zero, suc, ◌+◌, ◌<◌, ◌≤◌, Bool, true, false, List, ◌++◌, take, length, Option, Some, None, IfSome, IsSome, Result, Ok, Err, refl, sym, ap, ◌∙◌, subst, arith, take_all}
 use Rattle.std.specs.Prelude.{◌↔◌}
 use Rattle.std.specs.Option.{option_map}
 use Rattle.std.proofs.Math.Seq.{take-append-add, take-append_seam}
@@ -19,13 +19,13 @@ use Rattle.adr_pull.specs.declared.fault.PullFault.TheVariants as faults
 use Rattle.adr_pull.specs.Exchange.{HasSentFront, heard_in, moved}
 use Rattle.adr_pull.specs.Fetch.{Course, Ends, Over, Refused, BadPeer, Made, Point, fetch, greeting, hears, line_of, made, meets, met, pulled, request, said_in, sends, tells, turn}
 use Rattle.adr_law_controller.specs.Keeping.{Stands}
-use Rattle.adr_pull.specs.Told.{EndsSo, FindsBehind, FindsNear, FindsTold, Goes, HasFailed, IsAsking, IsAt, IsBehind, IsBetween, IsTelling, Meets, TakesTurn, Within}
+use Rattle.adr_pull.specs.Told.{EndsSo, Fallen, FindsBehind, FindsNear, FindsTold, Goes, HasDone, HasFailed, IsAsking, IsAt, IsBetween, IsTelling, Meets, TakesTurn, Up, Within}
 use Rattle.adr_pull.proofs.Cycling.{ended_by, further, none_yet}
 use Rattle.adr_law_controller.proofs.Crashes.{Crashes, LeavesLaw, crash_by, crash_on, finds_here, since}
 
-pub behind_at : {K : Type 0} (k : Ghosts K) (t : Traffic) (p : Point) (c : Running K) (net : Option Traffic)
-    (lines : Option (List ℕ)) → IsAt k t p c net lines → IsBehind k t p c net lines
-behind_at k t p c net lines at = record { node = at.node; left = p.left; net = at.net; lines = at.lines }
+done_at : {K : Type 0} (k : Ghosts K) (t : Traffic) (p : Point) (c : Running K) (net : Option Traffic)
+    (lines : Option (List ℕ)) → IsAt k t p c net lines → HasDone t net lines p.sent p.written
+done_at k t p c net lines at = record { left = p.left; net = at.net; lines = at.lines }
 
 -- ---- requests, one after the other
 
@@ -44,8 +44,8 @@ module _ {K : Type 0} (k : Ghosts K) (t : Traffic) (name : List ℕ) (partner : 
     at = subst (λ (x : Course). IsAt k t x.0 c net lines) (sym (none_yet name partner p)) at;
   }
 
-  pub begins_behind : (x : Started State) → FindsState p.stands.state x → FindsBehind course x
-  begins_behind x here = (0, subst (λ (c : Course). FindsState c.0.stands.state x) (sym (none_yet name partner p)) here)
+  pub begins_behind : (most : ℕ) (x : Started State) → FindsState p.stands.state x → FindsBehind course most x
+  begins_behind most x here = (0, omega arith, subst (λ (c : Course). FindsState c.0.stands.state x) (sym (none_yet name partner p)) here)
 
   module _ (n : ℕ) (none : (course n).1 ≡ None) (c : Running K) (net : Option Traffic) (lines : Option (List ℕ)) where
     abbrev pub Turns : Result Bool PullFault → Type 0
@@ -64,48 +64,48 @@ module _ {K : Type 0} (k : Ghosts K) (t : Traffic) (name : List ℕ) (partner : 
 
     module _ (most : ℕ) (within : n < most) where
       -- it has ended so
-      ends_so : (e : Ends) → (turn name partner (course n).0).1 ≡ Some e
-          → IsBehind k t (turn name partner (course n).0).0 c net lines
-          → EndsSo k t (course most) (Some e) c net lines
-      ends_so e is behind =
-          let here : (course (suc n)).1 ≡ Some e = ap (λ (x : Course). x.1) next ∙ is in
+      ends_so : (e : Ends) → EndsSo (Up k c) (HasDone t net lines) (turn name partner (course n).0) (Some e)
+          → EndsSo (Up k c) (HasDone t net lines) (course most) (Some e)
+      ends_so e so =
+          let here : (course (suc n)).1 ≡ Some e = ap (λ (x : Course). x.1) next ∙ so.0 in
           let all : course most ≡ turn name partner (course n).0 =
           ended_by name partner (suc n) most p e here (omega arith) ∙ next in
-          subst (λ (x : Course). EndsSo k t x (Some e) c net lines) (sym all) (is, behind)
+          subst (λ (x : Course). EndsSo (Up k c) (HasDone t net lines) x (Some e)) (sym all) so
 
-      within_so : (P : Point → Point → Type 0) → P (course n).0 (turn name partner (course n).0).0 → Within course P
-      within_so P holds = (n, none, subst (λ (x : Course). P (course n).0 x.0) (sym next) holds)
+      within_so : (P : Point → Point → Type 0) → P (course n).0 (turn name partner (course n).0).0 → Within course most P
+      within_so P holds = (n, within, none, subst (λ (x : Course). P (course n).0 x.0) (sym next) holds)
 
-      pub goes_over : (over : Bool) → over ≡ true → Turns (Ok over) → (unit : Unit) → Goes k t course most (Ok unit) c net lines
+      pub goes_over : (over : Bool) → over ≡ true → Turns (Ok over) → (unit : Unit) → Goes (Up k c) (Fallen k c) (HasDone t net lines) course most (Ok unit)
       goes_over over is turns unit =
-          ends_so Over (turns.0 ∙ ap (λ (b : Bool). then_some b Over) is) (behind_at k t _ c net lines turns.1)
+          ends_so Over (turns.0 ∙ ap (λ (b : Bool). then_some b Over) is, turns.1.node, done_at k t _ c net lines turns.1)
 
-      pub goes_err : (fault : PullFault) → Turns (Err fault) → Goes k t course most (Err fault) c net lines
-      goes_err faults.Refused turns = ends_so Refused turns.0 (behind_at k t _ c net lines turns.1)
-      goes_err faults.BadPeer turns = ends_so BadPeer turns.0 turns.1
-      goes_err faults.Link turns = within_so (λ p q. IsAsking k t p q c net lines) turns
-      goes_err faults.Write turns = within_so (λ p q. IsTelling k t p q c net lines) turns
-      goes_err faults.NoMemory turns = within_so (λ p q. IsAsking k t p q c net lines ⊎ IsTelling k t p q c net lines) turns
-      goes_err faults.Disk turns = within_so (λ p q. HasFailed k t p q c net lines) turns
+      pub goes_err : (fault : PullFault) → Turns (Err fault) → Goes (Up k c) (Fallen k c) (HasDone t net lines) course most (Err fault)
+      goes_err faults.Refused turns = ends_so Refused (turns.0, turns.1.node, done_at k t _ c net lines turns.1)
+      goes_err faults.BadPeer turns = ends_so BadPeer turns
+      goes_err faults.Link turns = within_so (λ p q. IsAsking (Up k c) (HasDone t net lines) p q) turns
+      goes_err faults.Write turns = within_so (λ p q. IsTelling (Up k c) (HasDone t net lines) p q) turns
+      goes_err faults.NoMemory turns =
+          within_so (λ p q. IsAsking (Up k c) (HasDone t net lines) p q ⊎ IsTelling (Up k c) (HasDone t net lines) p q) turns
+      goes_err faults.Disk turns = within_so (λ p q. HasFailed (Fallen k c) (HasDone t net lines) p q) turns
       goes_err faults.MoreWaiting turns = absurd turns
 
   -- a crash so far, and in one request more
-  pub crash_more : (n : ℕ) {c : Running K} {net : Option Traffic} {lines : Option (List ℕ)} → GoesOn n c net lines → (old new : K)
-      → Crashes k old c.keeper (FindsBehind course) → (IsSome (k.told c.keeper) ↔ IsSome (k.told old))
-      → ((q : Point) → IsAt k t q c net lines → Crashes k c.keeper new (FindsNear q (turn name partner q).0)) → Crashes k old new (FindsBehind course)
-  crash_more n {c} on old new first still second =
-      crash_on k old c.keeper new (FindsBehind course) (FindsNear (course n).0 (turn name partner (course n).0).0) (FindsBehind course) (λ x finds. finds) near first still.1
+  pub crash_more : (n most : ℕ) → n < most → {c : Running K} {net : Option Traffic} {lines : Option (List ℕ)} → GoesOn n c net lines → (old new : K)
+      → Crashes k old c.keeper (FindsBehind course most) → (IsSome (k.told c.keeper) ↔ IsSome (k.told old))
+      → ((q : Point) → IsAt k t q c net lines → Crashes k c.keeper new (FindsNear q (turn name partner q).0)) → Crashes k old new (FindsBehind course most)
+  crash_more n most within {c} on old new first still second =
+      crash_on k old c.keeper new (FindsBehind course most) (FindsNear (course n).0 (turn name partner (course n).0).0) (FindsBehind course most) (λ x finds. finds) near first still.1
       (second (course n).0 on.at)
     where
-      near : (x : Started State) → FindsNear (course n).0 (turn name partner (course n).0).0 x → FindsBehind course x
-      near x (inl here) = (n, here)
-      near x (inr there) = (suc n, subst (λ (c : Course). FindsState c.0.stands.state x) (sym (further name partner n p on.none)) there)
+      near : (x : Started State) → FindsNear (course n).0 (turn name partner (course n).0).0 x → FindsBehind course most x
+      near x (inl here) = (n, omega (arith, within), here)
+      near x (inr there) = (suc n, omega (arith, within), subst (λ (c : Course). FindsState c.0.stands.state x) (sym (further name partner n p on.none)) there)
 
   -- as many as there may be, and it hasn't ended
   pub goes_waiting : (n most : ℕ) (c : Running K) (net : Option Traffic) (lines : Option (List ℕ)) → n ≡ most
-      → GoesOn n c net lines → Goes k t course most (Err faults.MoreWaiting) c net lines
+      → GoesOn n c net lines → Goes (Up k c) (Fallen k c) (HasDone t net lines) course most (Err faults.MoreWaiting)
   goes_waiting n most c net lines is on =
-      subst (λ (m : ℕ). EndsSo k t (course m) None c net lines) is (on.none, behind_at k t _ c net lines on.at)
+      subst (λ (m : ℕ). EndsSo (Up k c) (HasDone t net lines) (course m) None) is (on.none, on.at.node, done_at k t _ c net lines on.at)
 
 -- ---- the greeting, and then requests
 
@@ -124,38 +124,44 @@ module _ {K : Type 0} (k : Ghosts K) (t : Traffic) (name : List ℕ) (p : Point)
     later : (n : ℕ) → all (suc n) ≡ fetch name partner n after_greeting
     later n = ap (meets name n (sends p greeting)) met_so
 
-    within_later : (P : Point → Point → Type 0) → Within (λ n. fetch name partner n after_greeting) P → Within all P
-    within_later P w = (
+    within_later : (most : ℕ) (P : Point → Point → Type 0) → Within (λ n. fetch name partner n after_greeting) most P → Within all (suc most) P
+    within_later most P w = (
       suc w.0,
-      ap (λ (x : Course). x.1) (later w.0) ∙ w.1,
+      omega (arith, w.1),
+      ap (λ (x : Course). x.1) (later w.0) ∙ w.2,
       subst (λ (x : Course). P x.0 (all (suc (suc w.0))).0) (sym (later w.0)) (subst (λ (x : Course). P
-          (fetch name partner w.0 after_greeting).0 x.0) (sym (later (suc w.0))) w.2),
+          (fetch name partner w.0 after_greeting).0 x.0) (sym (later (suc w.0))) w.3),
     )
 
     ends_later : (most : ℕ) (ends : Option Ends) (c : Running K) (net : Option Traffic) (lines : Option (List ℕ))
-        → EndsSo k t (fetch name partner most after_greeting) ends c net lines
-        → EndsSo k t (all (suc most)) ends c net lines
-    ends_later most ends c net lines so = subst (λ (x : Course). EndsSo k t x ends c net lines) (sym (later most)) so
+        → EndsSo (Up k c) (HasDone t net lines) (fetch name partner most after_greeting) ends
+        → EndsSo (Up k c) (HasDone t net lines) (all (suc most)) ends
+    ends_later most ends c net lines so = subst (λ (x : Course). EndsSo (Up k c) (HasDone t net lines) x ends) (sym (later most)) so
 
     pub goes_later : (most : ℕ) (result : Result Unit PullFault) (c : Running K) (net : Option Traffic)
         (lines : Option (List ℕ))
-        → Goes k t (λ n. fetch name partner n after_greeting) most result c net lines
-        → Goes k t all (suc most) result c net lines
+        → Goes (Up k c) (Fallen k c) (HasDone t net lines) (λ n. fetch name partner n after_greeting) most result
+        → Goes (Up k c) (Fallen k c) (HasDone t net lines) all (suc most) result
     goes_later most (Ok unit) c net lines so = ends_later most (Some Over) c net lines so
     goes_later most (Err faults.Refused) c net lines so = ends_later most (Some Refused) c net lines so
     goes_later most (Err faults.BadPeer) c net lines so = ends_later most (Some BadPeer) c net lines so
     goes_later most (Err faults.MoreWaiting) c net lines so = ends_later most None c net lines so
-    goes_later most (Err faults.Link) c net lines so = within_later (λ p q. IsAsking k t p q c net lines) so
-    goes_later most (Err faults.Write) c net lines so = within_later (λ p q. IsTelling k t p q c net lines) so
-    goes_later most (Err faults.NoMemory) c net lines so = within_later
-        (λ p q. IsAsking k t p q c net lines ⊎ IsTelling k t p q c net lines) so
-    goes_later most (Err faults.Disk) c net lines so = within_later (λ p q. HasFailed k t p q c net lines) so
+    goes_later most (Err faults.Link) c net lines so = within_later most (λ p q. IsAsking (Up k c) (HasDone t net lines) p q) so
+    goes_later most (Err faults.Write) c net lines so = within_later most (λ p q. IsTelling (Up k c) (HasDone t net lines) p q) so
+    goes_later most (Err faults.NoMemory) c net lines so = within_later most
+        (λ p q. IsAsking (Up k c) (HasDone t net lines) p q ⊎ IsTelling (Up k c) (HasDone t net lines) p q) so
+    goes_later most (Err faults.Disk) c net lines so = within_later most (λ p q. HasFailed (Fallen k c) (HasDone t net lines) p q) so
 
-    pub finds_later : (x : Started State) → FindsBehind (λ n. fetch name partner n after_greeting) x → FindsBehind all x
-    finds_later x finds = (suc finds.0, subst (λ (c : Course). FindsState c.0.stands.state x) (sym (later finds.0)) finds.1)
+    pub finds_later : (most : ℕ) (x : Started State) → FindsBehind (λ n. fetch name partner n after_greeting) most x → FindsBehind all (suc most) x
+    finds_later most x finds = (
+      suc finds.0,
+      omega (arith, finds.1),
+      subst (λ (c : Course). FindsState c.0.stands.state x) (sym (later finds.0)) finds.2,
+    )
 
-    pub leaves_later : (old new : K) → Crashes k old new (FindsBehind (λ n. fetch name partner n after_greeting)) → Crashes k old new (FindsBehind all)
-    leaves_later old new leaves = crash_by k old new (FindsBehind (λ n. fetch name partner n after_greeting)) (FindsBehind all) finds_later leaves
+    pub leaves_later : (most : ℕ) (old new : K) → Crashes k old new (FindsBehind (λ n. fetch name partner n after_greeting) most) → Crashes k old new (FindsBehind all (suc most))
+    leaves_later most old new leaves =
+        crash_by k old new (FindsBehind (λ n. fetch name partner n after_greeting) most) (FindsBehind all (suc most)) (finds_later most) leaves
 
     pub greeted_at : (c : Running K) (net : Option Traffic) (lines : Option (List ℕ)) → Stands k p.stands c
         → net ≡ Some (moved Before rest (frame greeting)) → lines ≡ Some p.written
@@ -169,25 +175,25 @@ module _ {K : Type 0} (k : Ghosts K) (t : Traffic) (name : List ℕ) (p : Point)
       ∙ ap (λ (x : Course). x.0.sent) (none_yet name m.0 (record (sends p greeting) { left = m.1 }))
 
   cut_short : (c : Running K) (net : Option Traffic) (lines : Option (List ℕ)) → Stands k p.stands c
-      → HasSentFront Before (frame greeting) net → lines ≡ Some p.written → IsAsking k t p (all 1).0 c net lines
-  cut_short c net lines node sent told = record {
-    node = node;
-    left = sent.0;
-    sent = p.sent ++ take sent.1 (frame greeting);
-    front = (frame greeting, sent.1, greeted_sent (met (heard_in p.left)) refl, refl);
-    net = sent.2;
-    lines = told;
-  }
+      → HasSentFront Before (frame greeting) net → lines ≡ Some p.written → IsAsking (Up k c) (HasDone t net lines) p (all 1).0
+  cut_short c net lines node sent told = (
+    node,
+    (
+      p.sent ++ take sent.1 (frame greeting),
+      (frame greeting, sent.1, greeted_sent (met (heard_in p.left)) refl, refl),
+      record { left = sent.0; net = sent.2; lines = told },
+    ),
+  )
 
   pub goes_unmet : (most : ℕ) (fault : PullFault) (c : Running K) (net : Option Traffic) (lines : Option (List ℕ))
       → Stands k p.stands c → Meets Before (Err fault) net → lines ≡ Some p.written
-      → Goes k t all (suc most) (Err fault) c net lines
+      → Goes (Up k c) (Fallen k c) (HasDone t net lines) all (suc most) (Err fault)
   goes_unmet most faults.BadPeer c net lines node so told =
       let is : all (suc most) ≡ (sends p greeting, Some BadPeer) = ap (meets name most (sends p greeting)) so.0 in
-      subst (λ (x : Course). EndsSo k t x (Some BadPeer) c net lines) (sym is)
-      (refl, record { node = node; left = so.1.0; net = so.1.1; lines = told })
-  goes_unmet most faults.Link c net lines node so told = (0, refl, cut_short c net lines node so told)
-  goes_unmet most faults.NoMemory c net lines node so told = (0, refl, inl (cut_short c net lines node so told))
+      subst (λ (x : Course). EndsSo (Up k c) (HasDone t net lines) x (Some BadPeer)) (sym is)
+      (refl, node, record { left = so.1.0; net = so.1.1; lines = told })
+  goes_unmet most faults.Link c net lines node so told = (0, omega arith, refl, cut_short c net lines node so told)
+  goes_unmet most faults.NoMemory c net lines node so told = (0, omega arith, refl, inl (cut_short c net lines node so told))
   goes_unmet most faults.Write c net lines node so told = absurd so
   goes_unmet most faults.Disk c net lines node so told = absurd so
   goes_unmet most faults.Refused c net lines node so told = absurd so
@@ -208,12 +214,12 @@ all_front bytes = (length bytes, sym (take_all (length bytes) bytes (omega arith
 module _ {K : Type 0} (k : Ghosts K) (leaves : LeavesLaw k) (t : Traffic) (go : ℕ → Course) (most : ℕ) (c : Running K)
     (net : Option Traffic) (lines : Option (List ℕ)) (order : IsInOrder k c) where
   abbrev pub IsKept : Type 0
-  IsKept = IfSome (k.told c.keeper) (λ _. Among (FindsTold go lines) (k.may_leave c.keeper))
+  IsKept = IfSome (k.told c.keeper) (λ _. Among (FindsTold go most lines) (k.may_leave c.keeper))
 
   -- the same, by what was told before
   pub kept_from : (old : K) → (IsSome (k.told c.keeper) ↔ IsSome (k.told old)) → IsKept → IfSome (k.told old)
-      (λ _. Among (FindsTold go lines) (k.may_leave c.keeper))
-  kept_from old still kept = since k old c.keeper (Among (FindsTold go lines) (k.may_leave c.keeper)) still.1 kept
+      (λ _. Among (FindsTold go most lines) (k.may_leave c.keeper))
+  kept_from old still kept = since k old c.keeper (Among (FindsTold go most lines) (k.may_leave c.keeper)) still.1 kept
 
   -- what was written is a front of the lines behind so many exchanges
   abbrev IsFront : ℕ → Type 0
@@ -224,44 +230,45 @@ module _ {K : Type 0} (k : Ghosts K) (leaves : LeavesLaw k) (t : Traffic) (go : 
       (sym is) front
 
   -- the node is up
-  up_kept : (n : ℕ) → Stands k (go n).0.stands c → IsFront n → IsKept
-  up_kept n node front =
-      if_told (k.told c.keeper) (λ _. Among (FindsTold go lines) (k.may_leave c.keeper)) (λ x is. λ left may. (
+  up_kept : (n : ℕ) → n ≤ most → Stands k (go n).0.stands c → IsFront n → IsKept
+  up_kept n within node front =
+      if_told (k.told c.keeper) (λ _. Among (FindsTold go most lines) (k.may_leave c.keeper)) (λ x is. λ left may. (
         n,
+        within,
         front,
         finds_here k leaves (go n).0.stands c node order (is_some_of (k.told c.keeper) x is) left may,
       ))
 
-  ended_kept : (ends : Option Ends) → EndsSo k t (go most) ends c net lines → IsKept
-  ended_kept ends so = up_kept most so.1.node (is_front most (go most).0.written so.1.lines (all_front (go most).0.written))
+  ended_kept : (ends : Option Ends) → EndsSo (Up k c) (HasDone t net lines) (go most) ends → IsKept
+  ended_kept ends so = up_kept most (omega arith) so.1 (is_front most (go most).0.written so.2.lines (all_front (go most).0.written))
 
-  asking_kept : (n : ℕ) → IsAsking k t (go n).0 (go (suc n)).0 c net lines → IsKept
-  asking_kept n so = up_kept n so.node (is_front n (go n).0.written so.lines (all_front (go n).0.written))
+  asking_kept : (n : ℕ) → n < most → IsAsking (Up k c) (HasDone t net lines) (go n).0 (go (suc n)).0 → IsKept
+  asking_kept n within so = up_kept n (omega (arith, within)) so.0 (is_front n (go n).0.written so.1.2.lines (all_front (go n).0.written))
 
-  telling_kept : (n : ℕ) → IsTelling k t (go n).0 (go (suc n)).0 c net lines → IsKept
-  telling_kept n so = up_kept (suc n) so.node (is_front (suc n) so.told so.lines (between_front
-      (go n).0.written so.told (go (suc n)).0.written so.front))
+  telling_kept : (n : ℕ) → n < most → IsTelling (Up k c) (HasDone t net lines) (go n).0 (go (suc n)).0 → IsKept
+  telling_kept n within so = up_kept (suc n) (omega (arith, within)) so.0 (is_front (suc n) so.1.0 so.1.2.lines (between_front
+      (go n).0.written so.1.0 (go (suc n)).0.written so.1.1))
 
   -- the node has fallen: what was written is a front behind one exchange more too
-  failed_kept : (n : ℕ) → ((m : ℕ) × ((go n).0.written ≡ take m (go (suc n)).0.written)) → HasFailed k t (go n).0 (go
-      (suc n)).0 c net lines → IsKept
-  failed_kept n more so =
-      if_told (k.told c.keeper) (λ _. Among (FindsTold go lines) (k.may_leave c.keeper)) (λ x is. λ left may.
+  failed_kept : (n : ℕ) → n < most → ((m : ℕ) × ((go n).0.written ≡ take m (go (suc n)).0.written)) → HasFailed (Fallen k c) (HasDone t net lines) (go n).0 (go
+      (suc n)).0 → IsKept
+  failed_kept n within more so =
+      if_told (k.told c.keeper) (λ _. Among (FindsTold go most lines) (k.may_leave c.keeper)) (λ x is. λ left may.
       ⊎_elim
-      (λ here. (n, is_front n (go n).0.written so.lines (all_front (go n).0.written), here))
-      (λ there. (suc n, is_front (suc n) (go n).0.written so.lines more, there))
-      (at_told (k.told c.keeper) _ x is so.node.1 left may))
+      (λ here. (n, omega (arith, within), is_front n (go n).0.written so.1.lines (all_front (go n).0.written), here))
+      (λ there. (suc n, omega (arith, within), is_front (suc n) (go n).0.written so.1.lines more, there))
+      (at_told (k.told c.keeper) _ x is so.0.1 left may))
 
   module _ (more : (n : ℕ) → (go n).1 ≡ None → (m : ℕ) × ((go n).0.written ≡ take m (go (suc n)).0.written)) where
-    pub kept_so : (result : Result Unit PullFault) → Goes k t go most result c net lines → IsKept
+    pub kept_so : (result : Result Unit PullFault) → Goes (Up k c) (Fallen k c) (HasDone t net lines) go most result → IsKept
     kept_so (Ok unit) so = ended_kept (Some Over) so
     kept_so (Err faults.Refused) so = ended_kept (Some Refused) so
     kept_so (Err faults.BadPeer) so = ended_kept (Some BadPeer) so
     kept_so (Err faults.MoreWaiting) so = ended_kept None so
-    kept_so (Err faults.Link) so = asking_kept so.0 so.2
-    kept_so (Err faults.Write) so = telling_kept so.0 so.2
-    kept_so (Err faults.NoMemory) so = ⊎_elim (asking_kept so.0) (telling_kept so.0) so.2
-    kept_so (Err faults.Disk) so = failed_kept so.0 (more so.0 so.1) so.2
+    kept_so (Err faults.Link) so = asking_kept so.0 so.1 so.3
+    kept_so (Err faults.Write) so = telling_kept so.0 so.1 so.3
+    kept_so (Err faults.NoMemory) so = ⊎_elim (asking_kept so.0 so.1) (telling_kept so.0 so.1) so.3
+    kept_so (Err faults.Disk) so = failed_kept so.0 so.1 (more so.0 so.2) so.3
 
 -- ---- lines are written one behind the other
 

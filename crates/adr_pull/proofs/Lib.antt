@@ -8,3 +8,4 @@ mod Unsaid
 mod Saying
 mod Sent
 mod WorkedCycle
+pub mod Retold

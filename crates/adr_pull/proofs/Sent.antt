@@ -10,7 +10,8 @@ use Rattle.adr_frames.specs.Frames.{frame}
 use Rattle.adr_pull.specs.declared.fault.SendFault.{SendFault}
 use Rattle.adr_pull.specs.declared.fault.SendFault.TheVariants as faults
 use Rattle.adr_pull.specs.Exchange.{HasSentFront, heard_in, moved}
-use Rattle.adr_pull.specs.Sending.{Course, IsAt, IsBehind, IsSaying, IsTelling, Fails, Place, Sends, TakesLine, Within, answer_in, converse, exchange, goes_on, hears, says, spoken, tells}
+use Rattle.adr_pull.specs.Sending.{Course, IsAt, IsSaying, IsTelling, Fails, Place, Sends, TakesLine, Within, answer_in, converse, exchange, goes_on, hears, says, spoken, tells}
+use Rattle.adr_pull.specs.Told.{HasDone}
 
 -- ---- one line
 
@@ -38,18 +39,16 @@ module _ (t : Traffic) (line : List ℕ) (p : Place) where
 
   -- a front of the line was sent
   saying : (net : Option Traffic) (lines : Option (List ℕ)) → HasSentFront Here message net → lines ≡ Some p.written
-      → IsSaying t p Next.0 net lines
-  saying net lines sent told = record {
-    left = sent.0;
-    sent = p.sent ++ take sent.1 message;
-    front = (message, sent.1, sent_next, refl);
-    net = sent.2;
-    lines = told;
-  }
+      → IsSaying (HasDone t net lines) p Next.0
+  saying net lines sent told = (
+    p.sent ++ take sent.1 message,
+    (message, sent.1, sent_next, refl),
+    record { left = sent.0; net = sent.2; lines = told },
+  )
 
   -- and all of it
   said_all : (net : Option Traffic) (lines : Option (List ℕ)) (rest : List ℕ) → net ≡ Some (moved Here rest message)
-      → lines ≡ Some p.written → IsSaying t p Next.0 net lines
+      → lines ≡ Some p.written → IsSaying (HasDone t net lines) p Next.0
   said_all net lines rest is told =
       saying net lines (
         rest,
@@ -89,18 +88,14 @@ module _ (t : Traffic) (line : List ℕ) (p : Place) where
       abbrev written : List ℕ
       written = answer ++ codes "\n"
 
-      telling : AddsFront before lines written → IsTelling t p Next.0 net lines
+      telling : AddsFront before lines written → IsTelling (HasDone t net lines) p Next.0
       telling front =
           let some = subst (λ (o : Option (List ℕ)). AddsFront o lines written) told front in
-          subst (λ (x : Course). IsTelling t p x.0 net lines) (sym (next_is (Some (answer, accepted)) is))
-          (record {
-            left = rest;
-            net = came_in;
-            told = p.written ++ take some.0 written;
-            front =
-                (written, some.0, append_assoc p.written answer (codes "\n"), refl);
-            lines = some.1;
-          })
+          subst (λ (x : Course). IsTelling (HasDone t net lines) p x.0) (sym (next_is (Some (answer, accepted)) is)) (
+            p.written ++ take some.0 written,
+            (written, some.0, append_assoc p.written answer (codes "\n"), refl),
+            record { left = rest; net = came_in; lines = some.1 },
+          )
 
       pub told_err : (fault : SendFault) → (fault ≡ faults.Write) ⊎ (fault ≡ faults.NoMemory)
           → AddsFront before lines written → TakesLine t p Next (Err fault) net lines
@@ -159,11 +154,11 @@ module _ (t : Traffic) (p : Place) (lines : List (List ℕ)) where
       → GoesOn lines true net told
   begins net told is at = record { done = []; parts = refl; none = refl; accepted = sym is; at = at }
 
-  over : (all : Bool) (net : Option Traffic) (told : Option (List ℕ)) → GoesOn [] all net told → Sends t p lines
-      (Ok all) net told
+  over : (all : Bool) (net : Option Traffic) (told : Option (List ℕ)) → GoesOn [] all net told → Sends (λ q. IsAt t q net told) (HasDone t net told) p lines
+      (Ok all)
   over all net told on =
       let whole : on.done ≡ lines = sym (append-nil on.done) ∙ sym on.parts in
-      subst (λ (ls : List (List ℕ)). Sends t p ls (Ok all) net told) whole (on.none, on.accepted, on.at)
+      subst (λ (ls : List (List ℕ)). Sends (λ q. IsAt t q net told) (HasDone t net told) p ls (Ok all)) whole (on.none, on.accepted, on.at)
 
   -- one line more
   module _ (line : List ℕ) (left : List (List ℕ)) (all : Bool) (before : Option Traffic) (was : Option (List ℕ))
@@ -194,15 +189,15 @@ module _ (t : Traffic) (p : Place) (lines : List (List ℕ)) where
     within P holds = (on.done, line, left, on.parts, on.none, holds)
 
     pub ends : (fault : SendFault) (net : Option Traffic) (told : Option (List ℕ)) → TakesLine t Stood Comes
-        (Err fault) net told → Sends t p lines (Err fault) net told
+        (Err fault) net told → Sends (λ q. IsAt t q net told) (HasDone t net told) p lines (Err fault)
     ends faults.BadPeer net told takes =
         let is : converse (on.done ++ line ∷ left) p ≡ Comes = behind on.done (line ∷ left) p on.none ∙ went_not Comes
         (λ q. converse left q) takes.0 in
-        subst (λ (ls : List (List ℕ)). Sends t p ls (Err faults.BadPeer) net told) (sym on.parts)
-        (subst (λ (x : Course). (x.1 ≡ true) × IsBehind t x.0 net told) (sym is) (takes.0, takes.1))
-    ends faults.Link net told takes = within (λ a b. IsSaying t a b net told) takes
-    ends faults.Write net told takes = within (λ a b. IsTelling t a b net told) takes
-    ends faults.NoMemory net told takes = within (λ a b. IsSaying t a b net told ⊎ IsTelling t a b net told) takes
+        subst (λ (ls : List (List ℕ)). Sends (λ q. IsAt t q net told) (HasDone t net told) p ls (Err faults.BadPeer)) (sym on.parts)
+        (subst (λ (x : Course). (x.1 ≡ true) × HasDone t net told x.0.sent x.0.written) (sym is) (takes.0, takes.1))
+    ends faults.Link net told takes = within (λ a b. IsSaying (HasDone t net told) a b) takes
+    ends faults.Write net told takes = within (λ a b. IsTelling (HasDone t net told) a b) takes
+    ends faults.NoMemory net told takes = within (λ a b. IsSaying (HasDone t net told) a b ⊎ IsTelling (HasDone t net told) a b) takes
 
 -- ---- the lines of a text
 
@@ -238,7 +233,7 @@ module _ (t : Traffic) (p : Place) (lines : List (List ℕ)) (rest line after : 
   here is = subst (λ (ls : List (List ℕ)). GoesOn t p lines ls all before was) (ap (λ (ls : List (List ℕ)). filter
       (λ l. not (is_passed l)) ls) first ∙ spoken_so line (lines_of after) is) on
 
-  pub turn_err : (fault : SendFault) → result ≡ Err fault → Sends t p lines (Err fault) net told
+  pub turn_err : (fault : SendFault) → result ≡ Err fault → Sends (λ q. IsAt t q net told) (HasDone t net told) p lines (Err fault)
   turn_err fault is =
       ⊎_elim
       (λ so. absurd (cc ((passed so).0, is)))
@@ -268,6 +263,6 @@ module _ (t : Traffic) (p : Place) (lines : List (List ℕ)) (rest line after : 
 -- none is left
 pub over_all : (t : Traffic) (p : Place) (lines : List (List ℕ)) (rest : List ℕ) (all : Bool) (net : Option Traffic)
     (told : Option (List ℕ)) → length rest ≤ 0
-    → GoesOn t p lines (spoken rest) all net told → Sends t p lines (Ok all) net told
+    → GoesOn t p lines (spoken rest) all net told → Sends (λ q. IsAt t q net told) (HasDone t net told) p lines (Ok all)
 over_all t p lines [] all net told is on = over t p lines all net told on
 over_all t p lines (b ∷ bs) all net told is on = absurd (omega (arith, is))

@@ -16,7 +16,7 @@ use Rattle.adr_pull.specs.Exchange.{HasSentFront, heard_in, moved}
 use Rattle.adr_pull.specs.Fetch.{Course, BadPeer, Made, Point, ends_of, hears, line_of, made, request, said_in, sends, tells, turn}
 use Rattle.adr_law_controller.proofs.Crashes.{Crashes, crash_by}
 use Rattle.adr_law_controller.specs.Keeping.{Stands}
-use Rattle.adr_pull.specs.Told.{Fails, FindsDue, FindsNear, IsAsking, IsAt, IsBetween, IsEnd, IsTelling, ReactsSo, TakesTurn}
+use Rattle.adr_pull.specs.Told.{Fails, FindsDue, FindsNear, HasDone, IsAsking, IsAt, IsBetween, IsEnd, IsTelling, ReactsSo, TakesTurn, Up}
 
 -- what is sent doesn't hang on what comes
 tells_sent : (name : List ℕ) (p : Point) (rest : List ℕ) (due : Option Made) → (tells name p rest due).0.sent ≡ p.sent
@@ -52,27 +52,27 @@ module _ {K : Type 0} (k : Ghosts K) (t : Traffic) (name : List ℕ) (partner : 
 
   -- a front of the request was sent
   asking : (c : Running K) (net lines : _) → Stands k p.stands c → HasSentFront Here asked net
-      → lines ≡ Some p.written → IsAsking k t p Next.0 c net lines
-  asking c net lines node sent told = record {
-    node = node;
-    left = sent.0;
-    sent = p.sent ++ take sent.1 asked;
-    front = (asked, sent.1, sent_next, refl);
-    net = sent.2;
-    lines = told;
-  }
+      → lines ≡ Some p.written → IsAsking (Up k c) (HasDone t net lines) p Next.0
+  asking c net lines node sent told = (
+    node,
+    (
+      p.sent ++ take sent.1 asked,
+      (asked, sent.1, sent_next, refl),
+      record { left = sent.0; net = sent.2; lines = told },
+    ),
+  )
 
   -- and all of it
   asked_all : (c : Running K) (net : Option Traffic) (lines : Option (List ℕ)) (rest : List ℕ) → Stands k p.stands c
-      → net ≡ Some (moved Here rest asked) → lines ≡ Some p.written → IsAsking k t p Next.0 c net lines
-  asked_all c net lines rest node is told = record {
-    node = node;
-    left = rest;
-    sent = p.sent ++ asked;
-    front = subst (λ (xs : List ℕ). IsBetween p.sent (p.sent ++ asked) xs) (sym sent_next) (all_between p.sent asked);
-    net = is;
-    lines = told;
-  }
+      → net ≡ Some (moved Here rest asked) → lines ≡ Some p.written → IsAsking (Up k c) (HasDone t net lines) p Next.0
+  asked_all c net lines rest node is told = (
+    node,
+    (
+      p.sent ++ asked,
+      subst (λ (xs : List ℕ). IsBetween p.sent (p.sent ++ asked) xs) (sym sent_next) (all_between p.sent asked),
+      record { left = rest; net = is; lines = told },
+    ),
+  )
 
   -- the request failed, or no whole frame came
   pub asked_err : (fault : PullFault) (c : Running K) (net : Option Traffic) (lines : Option (List ℕ)) → Stands k p.stands c
@@ -82,7 +82,7 @@ module _ {K : Type 0} (k : Ghosts K) (t : Traffic) (name : List ℕ) (partner : 
       let is : Next ≡ (sends p (request p.stands.state partner), Some BadPeer) = ap (hears name (sends p
       (request p.stands.state partner))) so.0 in
       subst (λ (x : Course). TakesTurn k t p x (Err faults.BadPeer) c net lines) (sym is)
-      (refl, record { node = node; left = so.1.0; net = so.1.1; lines = told })
+      (refl, node, record { left = so.1.0; net = so.1.1; lines = told })
   asked_err faults.Link c net lines node so told = asking c net lines node so told
   asked_err faults.NoMemory c net lines node so told = inl (asking c net lines node so told)
   asked_err faults.Write c net lines node so told = absurd so
@@ -119,10 +119,10 @@ module _ {K : Type 0} (k : Ghosts K) (t : Traffic) (name : List ℕ) (partner : 
           (Err fault) c → lines ≡ Some p.written → TakesTurn k t p Next (Err fault) c net lines
       reacts_err faults.BadPeer c lines so told =
           subst (λ (x : Course). TakesTurn k t p x (Err faults.BadPeer) c net lines) (sym (next_is None so.0))
-          (refl, record { node = so.1; left = rest; net = came_in; lines = told })
+          (refl, so.1, record { left = rest; net = came_in; lines = told })
       reacts_err faults.Disk c lines so told =
           subst (λ (x : Course). TakesTurn k t p x (Err faults.Disk) c net lines) (sym (next_is (Some so.0) so.1))
-          (record { node = so.2; left = rest; net = came_in; lines = told })
+          (so.2, record { left = rest; net = came_in; lines = told })
       reacts_err faults.NoMemory c lines so told = inl (asked_all c net lines rest so came_in told)
       reacts_err faults.Write c lines so told = absurd so
       reacts_err faults.Link c lines so told = absurd so
@@ -135,20 +135,18 @@ module _ {K : Type 0} (k : Ghosts K) (t : Traffic) (name : List ℕ) (partner : 
         abbrev to : Course
         to = tells name (sends p (request p.stands.state partner)) rest (Some m)
 
-        telling : AddsFront before lines (line_of name came) → IsTelling k t p Next.0 c net lines
+        telling : AddsFront before lines (line_of name came) → IsTelling (Up k c) (HasDone t net lines) p Next.0
         telling front =
             let some = subst (λ (o : Option (List ℕ)). AddsFront o lines (line_of name came)) told front in
             let line = subst (λ (x : Came). lines ≡ Some (p.written ++ take some.0 (line_of name x))) same some.1 in
-            subst (λ (x : Course). IsTelling k t p x.0 c net lines) (sym (next_is (Some m) is))
-            (record {
-              node = node;
-              left = rest;
-              net = came_in;
-              told = p.written ++ take some.0
-                  (line_of name m.1);
-              front = (line_of name m.1, some.0, refl, refl);
-              lines = line;
-            })
+            subst (λ (x : Course). IsTelling (Up k c) (HasDone t net lines) p x.0) (sym (next_is (Some m) is)) (
+              node,
+              (
+                p.written ++ take some.0 (line_of name m.1),
+                (line_of name m.1, some.0, refl, refl),
+                record { left = rest; net = came_in; lines = line },
+              ),
+            )
 
         pub told_err : (fault : PullFault) → (fault ≡ faults.Write) ⊎ (fault ≡ faults.NoMemory)
             → AddsFront before lines (line_of name came) → TakesTurn k t p Next (Err fault) c net lines

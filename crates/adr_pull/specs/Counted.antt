@@ -1,4 +1,5 @@
--- What is counted of calls outside: each fault comes where its count rose, and no count falls.
+-- What is counted of calls outside: each fault comes where its count rose, and no count falls. A call of a connection failed
+-- just where that is the fault.
 use Rattle.std.specs.Prelude.{◌≡◌, ◌↔◌, ◌<◌, ◌≤◌, Result, IsErrOf, IsSome}
 use Rattle.adr_io.specs.declared.Sink.{Ghosts as SinkGhosts}
 use Rattle.adr_journal.specs.declared.keeper.Keeper.{Ghosts}
@@ -21,6 +22,7 @@ pub record CountsDisk {K V : Type 0} (k : Ghosts K) (old new : Running K) (resul
 pub record CountsLink {N V : Type 0} (n : NetGhosts N) (old new : N) (result : Result V PullFault) : Type 0 where
   pub never_falls : n.lines old ≤ n.lines new
   pub link : IsErrOf result faults.Link → n.lines old < n.lines new
+  pub no_other : (IsErrOf result faults.Link → ⊥) → n.lines new ≡ n.lines old
   pub not_disk : IsErrOf result faults.Disk → ⊥
   pub not_write : IsErrOf result faults.Write → ⊥
   pub doors : n.doors new ≡ n.doors old
@@ -32,6 +34,7 @@ pub record CountsAll {K N S V : Type 0} (k : Ghosts K) (n : NetGhosts N) (s : Si
   pub disk : IsErrOf result faults.Disk → k.faults old.keeper < k.faults new.keeper
   pub disk_never_falls : k.faults old.keeper ≤ k.faults new.keeper
   pub link : IsErrOf result faults.Link → n.lines net < n.lines net_after
+  pub no_other : (IsErrOf result faults.Link → ⊥) → n.lines net_after ≡ n.lines net
   pub lines_never_fall : n.lines net ≤ n.lines net_after
   pub write : IsErrOf result faults.Write → s.faults sink < s.faults sink_after
   pub sink_never_falls : s.faults sink ≤ s.faults sink_after
@@ -41,6 +44,7 @@ pub record CountsAll {K N S V : Type 0} (k : Ghosts K) (n : NetGhosts N) (s : Si
 pub record CountsSent {N S V : Type 0} (n : NetGhosts N) (s : SinkGhosts S) (net net_after : N) (sink sink_after : S)
     (result : Result V SendFault) : Type 0 where
   pub link : IsErrOf result sends.Link → n.lines net < n.lines net_after
+  pub no_other : (IsErrOf result sends.Link → ⊥) → n.lines net_after ≡ n.lines net
   pub lines_never_fall : n.lines net ≤ n.lines net_after
   pub write : IsErrOf result sends.Write → s.faults sink < s.faults sink_after
   pub sink_never_falls : s.faults sink ≤ s.faults sink_after

@@ -1,5 +1,5 @@
 -- A cycle from a partner: what is sent, what each reply makes of a node, what is written, and how it ends.
-use Rattle.std.specs.Prelude.{if◌then◌else◌, ◌==◌, ◌&&◌, ℕ, zero, suc, List, [], ◌∷◌, ◌++◌}
+use Rattle.std.specs.Prelude.{if◌then◌else◌, ◌==◌, ◌&&◌, ◌+◌, ℕ, zero, suc, List, [], ◌∷◌, ◌++◌}
 use Rattle.std.specs.Prelude.{length, codes, is_some, Option, Some, None, Result, Ok, Err}
 use Rattle.std.specs.Bool.{then_some}
 use Rattle.std.specs.Option.{option_map, option_and_then}
@@ -173,3 +173,7 @@ pulled name (suc n) p = meets name n (sends p greeting) (met (heard_in p.left))
 -- the most replies of a cycle
 abbrev pub reply_limit : ℕ
 reply_limit = 1000000
+
+-- the most exchanges of one: its greeting, and so many replies
+abbrev pub exchange_limit : ℕ
+exchange_limit = reply_limit + 1

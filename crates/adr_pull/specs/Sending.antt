@@ -13,7 +13,7 @@ use Rattle.adr_frames.specs.Messages.{has_line_feed}
 use Rattle.adr_pull.specs.declared.fault.SendFault.{SendFault}
 use Rattle.adr_pull.specs.declared.fault.SendFault.TheVariants as faults
 use Rattle.adr_pull.specs.Exchange.{HasSent, HasSentFront, heard_in, moved}
-use Rattle.adr_pull.specs.Told.{IsBetween}
+use Rattle.adr_pull.specs.Told.{HasDone, IsBetween}
 
 -- the lines of a text that say something
 abbrev pub spoken : List ℕ → List (List ℕ)
@@ -82,34 +82,20 @@ abbrev pub converse : List (List ℕ) → Place → Course
 converse [] p = (p, false)
 converse (line ∷ lines) p = goes_on (exchange line p) (λ q. converse lines q)
 
--- ---- what is told
+-- ---- what is told, where `done` says what was sent and written
 
--- so much was sent and written; what is left may be any part of what came
-pub record IsBehind (t : Traffic) (p : Place) (traffic : Option Traffic) (written : Option (List ℕ)) : Type 0 where
-  pub left : List ℕ
-  pub net : traffic ≡ Some (record t { left = left; sent = p.sent })
-  pub lines : written ≡ Some p.written
-
--- and what is left is what the place says
+-- what is left, was sent and was written is what the place says
 pub record IsAt (t : Traffic) (p : Place) (traffic : Option Traffic) (written : Option (List ℕ)) : Type 0 where
   pub net : traffic ≡ Some (record t { left = p.left; sent = p.sent })
   pub lines : written ≡ Some p.written
 
 -- between one place and the next: a front of what is sent was sent, and nothing was written
-pub record IsSaying (t : Traffic) (p q : Place) (traffic : Option Traffic) (written : Option (List ℕ)) : Type 0 where
-  pub left : List ℕ
-  pub sent : List ℕ
-  pub front : IsBetween p.sent sent q.sent
-  pub net : traffic ≡ Some (record t { left = left; sent = sent })
-  pub lines : written ≡ Some p.written
+abbrev pub IsSaying : (List ℕ → List ℕ → Type 0) → Place → Place → Type 0
+IsSaying done p q = (sent : List ℕ) × IsBetween p.sent sent q.sent × done sent p.written
 
 -- all was sent, and a front of what is written was written
-pub record IsTelling (t : Traffic) (p q : Place) (traffic : Option Traffic) (written : Option (List ℕ)) : Type 0 where
-  pub left : List ℕ
-  pub net : traffic ≡ Some (record t { left = left; sent = q.sent })
-  pub told : List ℕ
-  pub front : IsBetween p.written told q.written
-  pub lines : written ≡ Some told
+abbrev pub IsTelling : (List ℕ → List ℕ → Type 0) → Place → Place → Type 0
+IsTelling done p q = (told : List ℕ) × IsBetween p.written told q.written × done q.sent told
 
 -- no frame was heard behind a message: none that is whole came, or a call failed
 abbrev pub Fails : Traffic → List ℕ → SendFault → Option Traffic → Type 0
@@ -128,10 +114,10 @@ Said items t message (Err fault) after = Fails t message fault after
 abbrev pub TakesLine : Traffic → Place → Course → Result Bool SendFault → Option Traffic → Option (List ℕ) → Type 0
 TakesLine t p next (Ok accepted) net lines = (next.1 ≡ false) × (next.0.accepted ≡
     (p.accepted && accepted)) × IsAt t next.0 net lines
-TakesLine t p next (Err faults.BadPeer) net lines = (next.1 ≡ true) × IsBehind t next.0 net lines
-TakesLine t p next (Err faults.Link) net lines = IsSaying t p next.0 net lines
-TakesLine t p next (Err faults.Write) net lines = IsTelling t p next.0 net lines
-TakesLine t p next (Err faults.NoMemory) net lines = IsSaying t p next.0 net lines ⊎ IsTelling t p next.0 net lines
+TakesLine t p next (Err faults.BadPeer) net lines = (next.1 ≡ true) × HasDone t net lines next.0.sent next.0.written
+TakesLine t p next (Err faults.Link) net lines = IsSaying (HasDone t net lines) p next.0
+TakesLine t p next (Err faults.Write) net lines = IsTelling (HasDone t net lines) p next.0
+TakesLine t p next (Err faults.NoMemory) net lines = IsSaying (HasDone t net lines) p next.0 ⊎ IsTelling (HasDone t net lines) p next.0
 
 -- some of the lines were sent and answered, and this holds of where it then stands and of where the next line comes to
 abbrev pub Within : List (List ℕ) → Place → (Place → Place → Type 0) → Type 0
@@ -139,11 +125,11 @@ Within lines p P =
     (done : List (List ℕ)) × (line : List ℕ) × (more : List (List ℕ)) × (lines ≡ done ++ line ∷ more)
     × ((converse done p).1 ≡ false) × P (converse done p).0 (exchange line (converse done p).0).0
 
--- what a text comes to, from a place
-abbrev pub Sends : Traffic → Place → List (List ℕ) → Result Bool SendFault → Option Traffic → Option (List ℕ) → Type 0
-Sends t p lines (Ok all) net told = ((converse lines p).1 ≡ false) × (all ≡ (converse lines p).0.accepted) × IsAt t
-    (converse lines p).0 net told
-Sends t p lines (Err faults.BadPeer) net told = ((converse lines p).1 ≡ true) × IsBehind t (converse lines p).0 net told
-Sends t p lines (Err faults.Link) net told = Within lines p (λ a b. IsSaying t a b net told)
-Sends t p lines (Err faults.Write) net told = Within lines p (λ a b. IsTelling t a b net told)
-Sends t p lines (Err faults.NoMemory) net told = Within lines p (λ a b. IsSaying t a b net told ⊎ IsTelling t a b net told)
+-- what lines come to, from a place, where `at` says that all is as a place says
+abbrev pub Sends : (Place → Type 0) → (List ℕ → List ℕ → Type 0) → Place → List (List ℕ) → Result Bool SendFault → Type 0
+Sends at done p lines (Ok all) = ((converse lines p).1 ≡ false) × (all ≡ (converse lines p).0.accepted) × at (converse lines p).0
+Sends at done p lines (Err faults.BadPeer) =
+    ((converse lines p).1 ≡ true) × done (converse lines p).0.sent (converse lines p).0.written
+Sends at done p lines (Err faults.Link) = Within lines p (λ a b. IsSaying done a b)
+Sends at done p lines (Err faults.Write) = Within lines p (λ a b. IsTelling done a b)
+Sends at done p lines (Err faults.NoMemory) = Within lines p (λ a b. IsSaying done a b ⊎ IsTelling done a b)

@@ -1,5 +1,5 @@
 -- What is told of a pull: where the node, its connection and its lines stand.
-use Rattle.std.specs.Prelude.{◌≡◌, ◌⊎◌, ℕ, suc, List, ◌++◌, take, Bool, Option, Some, None, IfSome, Result, Ok, Err}
+use Rattle.std.specs.Prelude.{◌≡◌, ◌⊎◌, ◌<◌, ◌≤◌, ℕ, suc, List, ◌++◌, take, Bool, Option, Some, None, IfSome, Result, Ok, Err}
 use Rattle.std.specs.Bool.{then_some}
 use Rattle.adr_disk.specs.Disk.{Among}
 use Rattle.adr_model.specs.Store.{State}
@@ -85,15 +85,20 @@ FindsDue f (Some m) s = FindsEither f.state m.0.state s
 
 -- ---- points
 
--- the controller is up where the point says, and so much was sent and written; what is left may be any part of what came
-pub record IsBehind {K : Type 0} (k : Ghosts K) (t : Traffic) (p : Point) (c : Running K)
-    (traffic : Option Traffic) (written : Option (List ℕ)) : Type 0 where
-  pub node : Stands k p.stands c
-  pub left : List ℕ
-  pub net : traffic ≡ Some (record t { left = left; sent = p.sent })
-  pub lines : written ≡ Some p.written
+-- the controller is up there, or a call of its disk failed between two points
+abbrev pub Up : {K : Type 0} → Ghosts K → Running K → Found State → Type 0
+Up k c f = Stands k f c
 
--- and what is left is what the point says
+abbrev pub Fallen : {K : Type 0} → Ghosts K → Running K → Point → Point → Type 0
+Fallen k c p q = HasFallen k p.stands.state q.stands.state c
+
+-- so much was sent and written; what is left may be any part of what came
+pub record HasDone (t : Traffic) (traffic : Option Traffic) (written : Option (List ℕ)) (sent told : List ℕ) : Type 0 where
+  pub left : List ℕ
+  pub net : traffic ≡ Some (record t { left = left; sent = sent })
+  pub lines : written ≡ Some told
+
+-- the controller is up where the point says, and what is left, was sent and was written is what it says
 pub record IsAt {K : Type 0} (k : Ghosts K) (t : Traffic) (p : Point) (c : Running K) (traffic : Option Traffic)
     (written : Option (List ℕ)) : Type 0 where
   pub node : Stands k p.stands c
@@ -104,37 +109,28 @@ pub record IsAt {K : Type 0} (k : Ghosts K) (t : Traffic) (p : Point) (c : Runni
 abbrev pub IsBetween : List ℕ → List ℕ → List ℕ → Type 0
 IsBetween first bytes last = (more : List ℕ) × (n : ℕ) × (last ≡ first ++ more) × (bytes ≡ first ++ take n more)
 
--- between one point and the next: a front of what is sent was sent, and nothing else was done
-pub record IsAsking {K : Type 0} (k : Ghosts K) (t : Traffic) (p q : Point) (c : Running K)
-    (traffic : Option Traffic) (written : Option (List ℕ)) : Type 0 where
-  pub node : Stands k p.stands c
-  pub left : List ℕ
-  pub sent : List ℕ
-  pub front : IsBetween p.sent sent q.sent
-  pub net : traffic ≡ Some (record t { left = left; sent = sent })
-  pub lines : written ≡ Some p.written
-
--- all was done, but for a part of the line
-pub record IsTelling {K : Type 0} (k : Ghosts K) (t : Traffic) (p q : Point) (c : Running K)
-    (traffic : Option Traffic) (written : Option (List ℕ)) : Type 0 where
-  pub node : Stands k q.stands c
-  pub left : List ℕ
-  pub net : traffic ≡ Some (record t { left = left; sent = q.sent })
-  pub told : List ℕ
-  pub front : IsBetween p.written told q.written
-  pub lines : written ≡ Some told
-
--- all was sent, and a call of the disk failed
-pub record HasFailed {K : Type 0} (k : Ghosts K) (t : Traffic) (p q : Point) (c : Running K)
-    (traffic : Option Traffic) (written : Option (List ℕ)) : Type 0 where
-  pub node : HasFallen k p.stands.state q.stands.state c
-  pub left : List ℕ
-  pub net : traffic ≡ Some (record t { left = left; sent = q.sent })
-  pub lines : written ≡ Some p.written
-
 -- a start finds where the node stands at the one point or the other
 abbrev pub FindsNear : Point → Point → Started State → Type 0
 FindsNear p q s = FindsEither p.stands.state q.stands.state s
+
+-- ---- where `at` says where the node then stands, `fallen` between which points a call of its disk failed, and `done` what was
+-- sent and written
+
+-- between one point and the next: a front of what is sent was sent, and nothing else was done
+abbrev pub IsAsking : (Found State → Type 0) → (List ℕ → List ℕ → Type 0) → Point → Point → Type 0
+IsAsking at done p q = at p.stands × ((sent : List ℕ) × IsBetween p.sent sent q.sent × done sent p.written)
+
+-- all was done, but for a part of the line
+abbrev pub IsTelling : (Found State → Type 0) → (List ℕ → List ℕ → Type 0) → Point → Point → Type 0
+IsTelling at done p q = at q.stands × ((told : List ℕ) × IsBetween p.written told q.written × done q.sent told)
+
+-- all was sent, and a call of the disk failed
+abbrev pub HasFailed : (Point → Point → Type 0) → (List ℕ → List ℕ → Type 0) → Point → Point → Type 0
+HasFailed fallen done p q = fallen p q × done q.sent p.written
+
+-- it has ended so
+abbrev pub EndsSo : (Found State → Type 0) → (List ℕ → List ℕ → Type 0) → Course → Option Ends → Type 0
+EndsSo at done course ends = (course.1 ≡ ends) × at course.0.stands × done course.0.sent course.0.written
 
 -- ---- one request
 
@@ -149,41 +145,38 @@ abbrev pub TakesTurn : {K : Type 0} → Ghosts K → Traffic → Point → Cours
     → Option Traffic → Option (List ℕ) → Type 0
 TakesTurn k t p next (Ok over) c net lines = (next.1 ≡ then_some over Over) × IsAt k t next.0 c net lines
 TakesTurn k t p next (Err faults.Refused) c net lines = (next.1 ≡ Some Refused) × IsAt k t next.0 c net lines
-TakesTurn k t p next (Err faults.BadPeer) c net lines = (next.1 ≡ Some BadPeer) × IsBehind k t next.0 c net lines
-TakesTurn k t p next (Err faults.Link) c net lines = IsAsking k t p next.0 c net lines
-TakesTurn k t p next (Err faults.Write) c net lines = IsTelling k t p next.0 c net lines
-TakesTurn k t p next (Err faults.NoMemory) c net lines = IsAsking k t p next.0 c net lines ⊎ IsTelling k t p next.0 c net lines
-TakesTurn k t p next (Err faults.Disk) c net lines = HasFailed k t p next.0 c net lines
+TakesTurn k t p next (Err faults.BadPeer) c net lines = EndsSo (Up k c) (HasDone t net lines) next (Some BadPeer)
+TakesTurn k t p next (Err faults.Link) c net lines = IsAsking (Up k c) (HasDone t net lines) p next.0
+TakesTurn k t p next (Err faults.Write) c net lines = IsTelling (Up k c) (HasDone t net lines) p next.0
+TakesTurn k t p next (Err faults.NoMemory) c net lines =
+    IsAsking (Up k c) (HasDone t net lines) p next.0 ⊎ IsTelling (Up k c) (HasDone t net lines) p next.0
+TakesTurn k t p next (Err faults.Disk) c net lines = HasFailed (Fallen k c) (HasDone t net lines) p next.0
 TakesTurn k t p next (Err faults.MoreWaiting) c net lines = ⊥
 
 -- ---- a cycle, of which this is where it comes to behind so many exchanges
 
--- it has ended so
-abbrev pub EndsSo : {K : Type 0} → Ghosts K → Traffic → Course → Option Ends → Running K → Option Traffic
-    → Option (List ℕ) → Type 0
-EndsSo k t course ends c net lines = (course.1 ≡ ends) × IsBehind k t course.0 c net lines
+-- behind so many exchanges, fewer than the most, it has not ended, and this holds of where it stands and of where the next one
+-- comes to
+abbrev pub Within : (ℕ → Course) → ℕ → (Point → Point → Type 0) → Type 0
+Within go most P = (n : ℕ) × (n < most) × ((go n).1 ≡ None) × P (go n).0 (go (suc n)).0
 
--- behind so many exchanges it has not ended, and this holds of where it stands and of where the next one comes to
-abbrev pub Within : (ℕ → Course) → (Point → Point → Type 0) → Type 0
-Within go P = (n : ℕ) × ((go n).1 ≡ None) × P (go n).0 (go (suc n)).0
+-- what comes of at most so many exchanges, by how the call ended
+abbrev pub Goes : (Found State → Type 0) → (Point → Point → Type 0) → (List ℕ → List ℕ → Type 0) → (ℕ → Course) → ℕ → Result Unit PullFault
+    → Type 0
+Goes at fallen done go most (Ok _) = EndsSo at done (go most) (Some Over)
+Goes at fallen done go most (Err faults.Refused) = EndsSo at done (go most) (Some Refused)
+Goes at fallen done go most (Err faults.BadPeer) = EndsSo at done (go most) (Some BadPeer)
+Goes at fallen done go most (Err faults.MoreWaiting) = EndsSo at done (go most) None
+Goes at fallen done go most (Err faults.Link) = Within go most (λ p q. IsAsking at done p q)
+Goes at fallen done go most (Err faults.Write) = Within go most (λ p q. IsTelling at done p q)
+Goes at fallen done go most (Err faults.NoMemory) = Within go most (λ p q. IsAsking at done p q ⊎ IsTelling at done p q)
+Goes at fallen done go most (Err faults.Disk) = Within go most (λ p q. HasFailed fallen done p q)
 
-abbrev pub Goes : {K : Type 0} → Ghosts K → Traffic → (ℕ → Course) → ℕ → Result Unit PullFault → Running K
-    → Option Traffic → Option (List ℕ) → Type 0
-Goes k t go most (Ok _) c net lines = EndsSo k t (go most) (Some Over) c net lines
-Goes k t go most (Err faults.Refused) c net lines = EndsSo k t (go most) (Some Refused) c net lines
-Goes k t go most (Err faults.BadPeer) c net lines = EndsSo k t (go most) (Some BadPeer) c net lines
-Goes k t go most (Err faults.MoreWaiting) c net lines = EndsSo k t (go most) None c net lines
-Goes k t go most (Err faults.Link) c net lines = Within go (λ p q. IsAsking k t p q c net lines)
-Goes k t go most (Err faults.Write) c net lines = Within go (λ p q. IsTelling k t p q c net lines)
-Goes k t go most (Err faults.NoMemory) c net lines = Within go
-    (λ p q. IsAsking k t p q c net lines ⊎ IsTelling k t p q c net lines)
-Goes k t go most (Err faults.Disk) c net lines = Within go (λ p q. HasFailed k t p q c net lines)
-
--- a start finds where the node stands behind some of the exchanges
-abbrev pub FindsBehind : (ℕ → Course) → Started State → Type 0
-FindsBehind go s = (n : ℕ) × FindsState (go n).0.stands.state s
+-- a start finds where the node stands behind some of so many exchanges
+abbrev pub FindsBehind : (ℕ → Course) → ℕ → Started State → Type 0
+FindsBehind go most s = (n : ℕ) × (n ≤ most) × FindsState (go n).0.stands.state s
 
 -- and all lines that were written are of those
-abbrev pub FindsTold : (ℕ → Course) → Option (List ℕ) → Started State → Type 0
-FindsTold go written s =
-    (n : ℕ) × IfSome written (λ lines. (m : ℕ) × (lines ≡ take m (go n).0.written)) × FindsState (go n).0.stands.state s
+abbrev pub FindsTold : (ℕ → Course) → ℕ → Option (List ℕ) → Started State → Type 0
+FindsTold go most written s =
+    (n : ℕ) × (n ≤ most) × IfSome written (λ lines. (m : ℕ) × (lines ≡ take m (go n).0.written)) × FindsState (go n).0.stands.state s

@@ -1,6 +1,7 @@
 //! A frame is sent, and the next one heard.
 
-ghost use Rattle.std.specs.Prelude.{◌≡◌, ◌<◌, ◌≤◌, IfSome, IsErrOf};
+ghost use Rattle.std.specs.Prelude.{IfSome};
+ghost use Rattle.adr_outside.specs.Calls.{CountsLine};
 ghost use Rattle.adr_pull.specs.Exchange.{Exchanges};
 
 use adr_frames::{Heard, hear, say};
@@ -17,9 +18,7 @@ pub(crate) fn exchange<N: Net>(
 ) -> Result<Option<Vec<u8>>, Fault>
     ensures exchanged { IfSome (N.traffic net.old) (λ t.
         Exchanges (λ v. v.items) t message.now result (N.traffic net.new)) }
-    ensures never_falls { N.lines net.old ≤ N.lines net.new }
-    ensures failed { IsErrOf result Fault.Failed → N.lines net.old < N.lines net.new }
-    ensures doors { N.doors net.new ≡ N.doors net.old }
+    ensures counts { CountsLine N.Net net.old net.new result }
 {
     say(alloc, net, message)?;
     match hear(alloc, net)? {

@@ -9,7 +9,7 @@ use std::alloc::AllocError;
 /// Why a cycle wasn't done. Whatever it is, each reply whose line was written is kept.
 #[derive(Clone, Copy, Debug)]
 pub enum PullFault {
-    /// A line couldn't be written. Its reply was taken and is kept.
+    /// A line couldn't be written: that of a reply, which was taken and is kept, or that of a refusal.
     Write,
     /// A call of the disk failed. The controller has no state in memory; its last reply may be kept or not.
     Disk,
@@ -39,7 +39,7 @@ impl From<AllocError> for PullFault {
 pub enum SendFault {
     /// An answer couldn't be written.
     Write,
-    /// A call of the connection failed. The last line may have been done or not.
+    /// A call of the connection failed. The last line may have been done, may yet be, or not.
     Link,
     /// Memory was wanting.
     NoMemory,

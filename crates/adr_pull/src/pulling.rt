@@ -1,12 +1,12 @@
 //! A cycle.
 
-ghost use Rattle.std.specs.Prelude.{◌≡◌, ◌↔◌, ◌<◌, ◌≤◌, ◌+◌, IfSome, IsErrOf, IsSome};
+ghost use Rattle.std.specs.Prelude.{◌≡◌, ◌↔◌, ◌<◌, ◌≤◌, IfSome, IsErrOf, IsSome};
 ghost use Rattle.adr_disk.specs.Disk.{Among, LeavesOnly};
 ghost use Rattle.adr_outside.specs.Traffic.{Traffic};
 ghost use Rattle.adr_pull.specs.Counted.{CountsAll};
-ghost use Rattle.adr_pull.specs.Fetch.{Point, fetch, pulled, reply_limit};
+ghost use Rattle.adr_pull.specs.Fetch.{Point, exchange_limit, fetch, pulled, reply_limit};
 ghost use Rattle.adr_law_controller.specs.Keeping.{KeepsLog};
-ghost use Rattle.adr_pull.specs.Told.{FindsBehind, FindsTold, Goes, IsAt};
+ghost use Rattle.adr_pull.specs.Told.{Fallen, FindsBehind, FindsTold, Goes, HasDone, IsAt, Up};
 
 use crate::fault::PullFault;
 use crate::talking::meet;
@@ -32,12 +32,12 @@ fn fetch<K: Keeper, N: Net, S: Sink>(
     requires up { IsSome controller.old.state }
     requires log { KeepsLog K.Keeper }
     ensures goes { (t : Traffic) (p : Point) → IsAt K.Keeper t p controller.old (N.traffic net.old) (S.written sink.old)
-        → Goes K.Keeper t (λ n. fetch name.now partner n p) reply_limit result controller.new (N.traffic net.new)
-        (S.written sink.new) }
+        → Goes (Up K.Keeper controller.new) (Fallen K.Keeper controller.new) (HasDone t (N.traffic net.new) (S.written sink.new))
+        (λ n. fetch name.now partner n p) reply_limit result }
     ensures any_moment { (t : Traffic) (p : Point) → IsAt K.Keeper t p controller.old (N.traffic net.old) (S.written sink.old)
         → IfSome (K.told controller.old.keeper) (λ _.
         LeavesOnly K.moment K.left_since controller.old.keeper controller.new.keeper
-        (FindsBehind (λ n. fetch name.now partner n p))) }
+        (FindsBehind (λ n. fetch name.now partner n p) reply_limit)) }
     ensures counts { CountsAll K.Keeper N.Net S.Sink controller.old controller.new net.old net.new sink.old sink.new result }
 {
     let _ = controller.state();
@@ -65,18 +65,18 @@ pub fn pull<K: Keeper, N: Net, S: Sink>(
 
     // From wherever node, connection and lines stand, as far as they tell it.
     ensures pulls { (t : Traffic) (p : Point) → IsAt K.Keeper t p controller.old (N.traffic net.old) (S.written sink.old)
-        → Goes K.Keeper t (λ n. pulled name.now n p) (reply_limit + 1) result controller.new (N.traffic net.new)
-        (S.written sink.new) }
+        → Goes (Up K.Keeper controller.new) (Fallen K.Keeper controller.new) (HasDone t (N.traffic net.new) (S.written sink.new))
+        (λ n. pulled name.now n p) exchange_limit result }
 
     // A start finds the node behind some of the replies, whenever a crash comes; and behind the call, each reply whose
     // line was written is kept.
     ensures any_moment { (t : Traffic) (p : Point) → IsAt K.Keeper t p controller.old (N.traffic net.old) (S.written sink.old)
         → IfSome (K.told controller.old.keeper) (λ _.
         LeavesOnly K.moment K.left_since controller.old.keeper controller.new.keeper
-        (FindsBehind (λ n. pulled name.now n p))) }
+        (FindsBehind (λ n. pulled name.now n p) exchange_limit)) }
     ensures left { (t : Traffic) (p : Point) → IsAt K.Keeper t p controller.old (N.traffic net.old) (S.written sink.old)
         → IfSome (K.told controller.old.keeper) (λ _.
-        Among (FindsTold (λ n. pulled name.now n p) (S.written sink.new)) (K.may_leave controller.new.keeper)) }
+        Among (FindsTold (λ n. pulled name.now n p) exchange_limit (S.written sink.new)) (K.may_leave controller.new.keeper)) }
 
     // Each fault of the outside comes where its count rose, and no count falls.
     ensures counts { CountsAll K.Keeper N.Net S.Sink controller.old controller.new net.old net.new sink.old sink.new result }

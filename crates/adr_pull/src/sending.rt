@@ -6,6 +6,7 @@ ghost use Rattle.adr_outside.specs.Traffic.{Traffic};
 ghost use Rattle.adr_schedule.specs.Commands.{is_passed as defined};
 ghost use Rattle.adr_pull.specs.Counted.{CountsSent};
 ghost use Rattle.adr_pull.specs.Sending.{IsAt, Place, Said, Sends, TakesLine, exchange as exchanged, spoken};
+ghost use Rattle.adr_pull.specs.Told.{HasDone};
 
 use crate::answering::answer_in;
 use crate::exchanging::exchange;
@@ -22,6 +23,7 @@ fn say_line<N: Net>(alloc: Global, line: &[u8], net: &mut N) -> Result<Vec<u8>, 
         Said (λ v. v.items) t (4 ∷ line.now) result (N.traffic net.new)) }
     ensures never_falls { N.lines net.old ≤ N.lines net.new }
     ensures link { IsErrOf result SendFault.Link → N.lines net.old < N.lines net.new }
+    ensures no_other { (IsErrOf result SendFault.Link → ⊥) → N.lines net.new ≡ N.lines net.old }
     ensures not_write { IsErrOf result SendFault.Write → ⊥ }
     ensures doors { N.doors net.new ≡ N.doors net.old }
 {
@@ -105,7 +107,8 @@ pub fn send<N: Net, S: Sink>(
 ) -> Result<bool, SendFault>
     // From wherever connection and lines stand, as far as they tell it.
     ensures sends { (t : Traffic) (p : Place) → p.accepted ≡ true → IsAt t p (N.traffic net.old) (S.written sink.old)
-        → Sends t p (spoken text.now) result (N.traffic net.new) (S.written sink.new) }
+        → Sends (λ q. IsAt t q (N.traffic net.new) (S.written sink.new)) (HasDone t (N.traffic net.new) (S.written sink.new)) p
+        (spoken text.now) result }
 
     // Each fault of the outside comes where its count rose, and no count falls.
     ensures counts { CountsSent N.Net S.Sink net.old net.new sink.old sink.new result }

@@ -1,6 +1,5 @@
 -- A change that may be recorded is read from its body and follows, and what follows leads to a state of a log.
 use Rattle.std.proofs.Common.{◌≡◌, ℕ, ◌≤◌, Bool, true, false, cond, eqb, leb, List, [], ◌∷◌, ◌&&◌, length, map, Option, Some, None, refl, sym, ap, subst, ◌∙◌, arith, inl, inr}
-use Rattle.std.specs.Prelude.{is_some}
 use Rattle.std.specs.List.{AllByRecursion, list_all}
 use Rattle.std.specs.List.Sorted.{IsStrictlySortedBy}
 use Rattle.std.specs.Option.{IfSome}
@@ -14,7 +13,6 @@ use Rattle.adr_values.specs.declared.stamp.Unit.TheVariants.{Object}
 use Rattle.adr_values.specs.contracts.stamp.OidOrd.TheImpl.Laws.{total-law as objects_total}
 use Rattle.adr_values.specs.declared.content.Content.{Content}
 use Rattle.adr_values.specs.declared.content.Content.TheVariants.{Class, Name, Dead, Values}
-use Rattle.adr_values.specs.Schemas.{schema_table}
 use Rattle.adr_values.proofs.Moments.{no_times}
 use Rattle.adr_wire.specs.Composites.{Row}
 use Rattle.adr_wire.specs.Pieces.{Piece, OfRows, OfLink, IsPiece}
@@ -163,13 +161,11 @@ change_follows s c logged has within follows = record {
 }
 
 pub logged_after : (s : State) (c : Change) → MayBeRecorded s c → IsLogged (after s c)
-logged_after s c may = let same : c.schema ≡ s.store.schema = ap (λ (d : Change). d.schema) may.body.says in record {
+logged_after s c may = record {
   dsa = may.logged.dsa;
   inv = may.logged.inv;
   formed = may.follows.formed;
-  spelled =
-      stays_spelled s c may.logged.inv may.logged.spelled (subst (λ (n : ℕ). is_some (schema_table n) ≡ true) (sym same) may.logged.spelled.schema)
-      (subst (λ (n : ℕ). HasBody s.store.usn n c) (sym same) may.body) may.follows.classes;
+  spelled = stays_spelled s c may.logged.inv may.logged.spelled may.body may.follows.classes;
   classes = may.follows.classes;
 }
 

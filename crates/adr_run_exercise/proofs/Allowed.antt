@@ -1,20 +1,19 @@
 -- The lines of the schedule are allowed by the grammar.
-use Rattle.std.proofs.Common.{◌≡◌, ℕ, ◌+◌, ◌*◌, ◌/◌, ◌%◌, ◌<◌, ◌≤◌, ◌^◌, Bool, true, false, List, [], ◌∷◌, ◌++◌, length, refl, inl, inr, arith}
+use Rattle.std.proofs.Common.{◌≡◌, ℕ, ◌+◌, ◌%◌, ◌<◌, ◌^◌, Bool, true, false, List, [], ◌∷◌, ◌++◌, refl, inl, inr, arith}
 use Rattle.std.specs.Prelude.{◌==◌, if◌then◌else◌, codes, pos}
 use Rattle.std.specs.List.Sorted.{IsStrictlySortedBy}
 use Rattle.std.specs.Ordering.{nat_cmp}
 use Rattle.std.specs.Fmt.{decimal}
 use Rattle.std.proofs.lemmas.Int.{ints}
 use Rattle.adr_values.specs.declared.content.Value.TheVariants.{Text as Words, Number as Figures}
-use Rattle.adr_call.specs.declared.write.Write.TheVariants.{Add, Delete, Link}
-use Rattle.adr_call.specs.declared.event.Event.{Event}
+use Rattle.adr_call.specs.declared.write.Write.TheVariants.{Delete}
 use Rattle.adr_call.specs.declared.event.Event.TheVariants as kinds
 use Rattle.adr_token.specs.Words.{is_name}
 use Rattle.adr_token.specs.Texts.{is_text}
 use Rattle.adr_token.specs.Spelling.{identifier_token, text_token, value_token}
 use Rattle.adr_token.proofs.ByteLaws.{bytes_identifier}
 use Rattle.adr_schedule.specs.Grammar.{Token, Word, Name, Number, Identifier, Class, Attribute, Quoted, Set, tokens_behind, IsSpelled, IsAllowed}
-use Rattle.adr_run_exercise.specs.Generated.{controller, identifier, numbered, root, group, person, group_added, person_added, person_linked}
+use Rattle.adr_run_exercise.specs.Generated.{controller, identifier, numbered, group_added, person_added, person_linked}
 use Rattle.adr_run_exercise.proofs.Numerals.{IsSmall, letter_named, word_text}
 
 abbrev HasSpelling : Token → Type 0

@@ -1,6 +1,6 @@
 -- The states of the generator, three draws at each seventh person.
 use Rattle.std.proofs.Common.{◌≡◌, ℕ, suc, ◌+◌, ◌*◌, ◌/◌, ◌%◌, refl, ap, ◌∙◌, arith}
-use Rattle.adr_run_exercise.specs.Generated.{next_state, state}
+use Rattle.adr_run_exercise.specs.Generated.{state}
 
 three_more : (x draws : ℕ) → state (state x draws) 3 ≡ state x (suc (suc (suc draws)))
 unfolding state

@@ -1,5 +1,5 @@
 -- The lines of the schedule may follow one another.
-use Rattle.std.proofs.Common.{◌≡◌, ℕ, zero, suc, ◌+◌, ◌*◌, ◌/◌, ◌%◌, ◌<◌, ◌≤◌, ◌^◌, Bool, true, false, ◌||◌, List, [], ◌∷◌, ◌++◌, map, length, append_assoc, Option, Some, None, Ok, refl, sym, ap, subst, ◌∙◌, arith}
+use Rattle.std.proofs.Common.{◌≡◌, ℕ, zero, suc, ◌+◌, ◌*◌, ◌/◌, ◌%◌, ◌<◌, ◌≤◌, ◌^◌, Bool, true, false, ◌||◌, List, [], ◌∷◌, ◌++◌, map, append_assoc, Option, None, refl, sym, ap, subst, ◌∙◌, arith}
 use Rattle.std.specs.Prelude.{◌==◌, if◌then◌else◌, codes, All}
 use Rattle.std.proofs.lemmas.List.Elements.{All-cons, All-nil}
 use Rattle.std.specs.Fmt.{decimal}
@@ -20,7 +20,7 @@ use Rattle.adr_schedule.specs.Seen.{Seen, nothing_seen, is_bound, if_bound, unle
 use Rattle.adr_schedule.proofs.AllowedLaws.{lined_supported}
 use Rattle.adr_token.specs.Words.{is_name}
 use Rattle.adr_run_exercise.specs.Generated.{controller, identifier, numbered, person, round, rounds, beginning, group_added, groups, backed_up, restored, person_added, person_linked, lost, exchanged, met, exchange, state, person_lines, persons, person_deleted, deletions, collections, schedule}
-use Rattle.adr_run_exercise.specs.Laws.{SchedulesAreSupported, SchedulesFollow}
+use Rattle.adr_run_exercise.specs.Laws.{GeneratedAreSupported, SchedulesFollow}
 use Rattle.adr_run_exercise.proofs.Numerals.{IsSmall, decimal_apart}
 use Rattle.adr_run_exercise.proofs.Allowed.{controller_named, request_named, reply_named, time_allowed, controller_allowed, cycle_allowed, pull_allowed, collect_allowed, backup_allowed, restore_allowed, ask_allowed, serve_allowed, delete_allowed, group_allowed, person_allowed, link_allowed}
 
@@ -512,5 +512,5 @@ following_supported : (es : List Event) (seen : Seen) → IsFollowing seen es �
 following_supported [] seen follow = All-nil IsSupported
 following_supported (e ∷ es) seen follow = All-cons IsSupported e es (lined_supported e follow.1.0) (following_supported es (seen_after seen e) follow.2)
 
-pub schedules_supported : SchedulesAreSupported
+pub schedules_supported : GeneratedAreSupported
 schedules_supported n few = following_supported (schedule n) nothing_seen (schedules_follow n few)

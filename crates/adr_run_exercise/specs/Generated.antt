@@ -2,8 +2,7 @@
 use Rattle.std.specs.Prelude.{ℕ, zero, suc, ◌+◌, ◌*◌, ◌/◌, ◌%◌, ◌^◌, List, [], ◌∷◌, ◌++◌, ◌==◌, if◌then◌else◌, map, codes, pos}
 use Rattle.std.specs.Fmt.{decimal}
 use Rattle.std.specs.Int.{w128, to_be_bytes}
-use Rattle.std.specs.List.{range_with_len, flat_map, filter}
-use Rattle.adr_values.specs.Assignments.{Given}
+use Rattle.std.specs.List.{range_with_len, flat_map}
 use Rattle.adr_values.specs.declared.content.Value.TheVariants.{Text, Number}
 use Rattle.adr_call.specs.declared.write.Write.TheVariants.{Add, Delete, Link}
 use Rattle.adr_call.specs.declared.event.Event.{Event}

@@ -12,9 +12,9 @@ abbrev pub SchedulesFollow : Type 0
 SchedulesFollow = (n : ℕ) → n < 2 ^ 64 → IsFollowing nothing_seen (schedule n)
 
 -- what is printed of the schedule is read as the schedule, where it isn't too long
-abbrev pub SchedulesAreRead : Type 0
-SchedulesAreRead = (n : ℕ) → n < 2 ^ 64 → length (printed (schedule n)) ≤ text_limit → events_of (printed (schedule n)) ≡ Ok (schedule n)
+abbrev pub GeneratedAreRead : Type 0
+GeneratedAreRead = (n : ℕ) → n < 2 ^ 64 → length (printed (schedule n)) ≤ text_limit → events_of (printed (schedule n)) ≡ Ok (schedule n)
 
 -- the program does all that the schedule says
-abbrev pub SchedulesAreSupported : Type 0
-SchedulesAreSupported = (n : ℕ) → n < 2 ^ 64 → All IsSupported (schedule n)
+abbrev pub GeneratedAreSupported : Type 0
+GeneratedAreSupported = (n : ℕ) → n < 2 ^ 64 → All IsSupported (schedule n)

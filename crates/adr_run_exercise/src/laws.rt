@@ -1,6 +1,6 @@
 //! The laws of the schedule.
 
-ghost use Rattle.adr_run_exercise.specs.Laws.{SchedulesAreRead, SchedulesAreSupported, SchedulesFollow};
+ghost use Rattle.adr_run_exercise.specs.Laws.{GeneratedAreRead, GeneratedAreSupported, SchedulesFollow};
 
 use adr_run_print::events_are_read_again;
 
@@ -12,7 +12,7 @@ pub fn schedules_follow()
 
 /// What is printed of the schedule is read again, up to the limit of a text.
 pub fn schedules_are_read()
-    ensures { SchedulesAreRead }
+    ensures { GeneratedAreRead }
 {
     events_are_read_again();
 }
@@ -20,5 +20,5 @@ pub fn schedules_are_read()
 /// The program does all that the schedule says.
 #[tactic(auto, using(crate::proofs::Followed::schedules_supported))]
 pub fn schedules_are_supported()
-    ensures { SchedulesAreSupported }
+    ensures { GeneratedAreSupported }
 {}

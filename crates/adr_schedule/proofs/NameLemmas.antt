@@ -1,4 +1,4 @@
--- Names that are kept in a set of strings.
+-- Names that are kept in a set of strings, and identifiers in a set of bytes.
 use Rattle.std.proofs.Common.{◌≡◌, ℕ, false, List, [], ◌∷◌, ◌++◌, map, refl, ap, ◌∙◌, if◌then◌else◌}
 use Rattle.std.specs.Prelude.{String, string_bytes}
 use Rattle.std.specs.List.{list_any}
@@ -6,6 +6,17 @@ use Rattle.std.specs.Str.{bytes_eq}
 use Rattle.std.proofs.lemmas.Cmp.{nat_list_eq_equiv}
 use Rattle.std.proofs.lemmas.List.{map-append}
 use Rattle.adr_schedule.specs.Seen.{is_bound}
+
+-- an identifier was given where it is kept
+pub kept : (id : List ℕ) (ids : List (List ℕ)) → list_any (bytes_eq id) ids ≡ is_bound ids id
+kept id [] = refl
+kept id (given ∷ ids) = rw (nat_list_eq_equiv.symm id given, kept id ids) refl
+
+-- a new identifier goes last
+pub given_last : (ids all : List (List ℕ)) (id : List ℕ) → is_bound ids id ≡ false
+    → all ≡ (if list_any (bytes_eq id) ids then ids else ids ++ id ∷ [])
+    → all ≡ ids ++ id ∷ []
+given_last ids all id new grown = grown ∙ ap (λ b. if b then ids else ids ++ id ∷ []) (kept id ids ∙ new)
 
 module _ {Y : Type 0} where
   -- a name is bound where a string of its bytes is kept

@@ -2,14 +2,15 @@
 //! on the tokens of `adr_token` and the events of `adr_call`, and knows nothing of what an event does.
 #![tactic(auto)]
 
+mod bound;
 mod commands;
 mod crashes;
 mod fault;
+mod given;
 mod laws;
 mod limits;
 mod lines;
 mod members;
-mod names;
 mod parsing;
 mod seen;
 mod sets;

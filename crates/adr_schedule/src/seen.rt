@@ -5,9 +5,10 @@ ghost use Rattle.adr_schedule.specs.Faults.{RefusesEvent};
 ghost use Rattle.adr_values.specs.First.{first_of};
 ghost use Rattle.adr_schedule.specs.Seen.{nothing_seen, is_bound, is_any_unbound, unless_all_bound, unless_bound, if_bound, if_inv_given, if_given, if_full, cause_after, with_controller, seen_after};
 
+use crate::bound::BoundNames;
 use crate::fault::Cause;
+use crate::given::GivenIdentifiers;
 use crate::limits::CONTROLLER_LIMIT;
-use crate::names::Names;
 use adr_call::{Event, Failure};
 use adr_values::{Guid, Text};
 use std::alloc::Global;
@@ -15,13 +16,13 @@ use std::marker::Model;
 
 /// The names that lines bound, and the identifiers that they gave.
 pub struct Seen {
-    controllers: Names,
-    requests: Names,
-    replies: Names,
-    images: Names,
-    snapshots: Names,
-    dsas: Vec<Guid>,
-    invs: Vec<Guid>,
+    controllers: BoundNames,
+    requests: BoundNames,
+    replies: BoundNames,
+    images: BoundNames,
+    snapshots: BoundNames,
+    dsas: GivenIdentifiers,
+    invs: GivenIdentifiers,
 }
 
 impl Drop for Seen {
@@ -44,25 +45,7 @@ impl Model for Seen {
 
     ghost Value = { Bindings };
 
-    ghost view = { λ s. record { controllers = s.controllers; requests = s.requests; replies = s.replies; images = s.images; snapshots = s.snapshots; dsas = s.dsas.items; invs = s.invs.items } };
-}
-
-/// Whether an identifier is among these.
-fn is_given(ids: &[Guid], id: &Guid) -> bool
-    ensures { result ≡ is_bound ids.now id.now }
-{
-    ids.iter().any(|given| *given == *id)
-}
-
-/// Adds an identifier.
-fn give(ids: &mut Vec<Guid>, id: &Guid) -> Result<(), Failure<Cause>>
-    ensures given { OnOk result (ids.new.items ≡ ids.old.items ++ id.now ∷ []) }
-    ensures memory { IfErr result (λ failure. failure ≡ Failure.NoMemory) }
-{
-    match ids.push(*id) {
-        Ok(()) => Ok(()),
-        Err(_) => Err(Failure::NoMemory),
-    }
+    ghost view = { λ s. record { controllers = s.controllers; requests = s.requests; replies = s.replies; images = s.images; snapshots = s.snapshots; dsas = s.dsas; invs = s.invs } };
 }
 
 impl Seen {
@@ -71,13 +54,13 @@ impl Seen {
         ensures { result ≡ nothing_seen }
     {
         Seen {
-            controllers: Names::new(alloc),
-            requests: Names::new(alloc),
-            replies: Names::new(alloc),
-            images: Names::new(alloc),
-            snapshots: Names::new(alloc),
-            dsas: Vec::new(alloc),
-            invs: Vec::new(alloc),
+            controllers: BoundNames::new(alloc),
+            requests: BoundNames::new(alloc),
+            replies: BoundNames::new(alloc),
+            images: BoundNames::new(alloc),
+            snapshots: BoundNames::new(alloc),
+            dsas: GivenIdentifiers::new(alloc),
+            invs: GivenIdentifiers::new(alloc),
         }
     }
 
@@ -92,7 +75,7 @@ impl Seen {
     }
 
     /// A line uses a controller, and a name of another kind or a second controller.
-    fn cause_of_use(&self, name: &Text, names: &Names, used: &Text) -> Option<Cause>
+    fn cause_of_use(&self, name: &Text, names: &BoundNames, used: &Text) -> Option<Cause>
         ensures { result
             ≡ first_of (unless_bound self.now.controllers name.now ∷ unless_bound names.now used.now ∷ []) }
     {
@@ -131,7 +114,7 @@ impl Seen {
     }
 
     /// A line uses a controller, and binds a name of another kind.
-    fn cause_of_copy(&self, name: &Text, names: &Names, bound: &Text) -> Option<Cause>
+    fn cause_of_copy(&self, name: &Text, names: &BoundNames, bound: &Text) -> Option<Cause>
         ensures { result
             ≡ first_of (unless_bound self.now.controllers name.now ∷ if_bound names.now bound.now ∷ []) }
     {
@@ -152,7 +135,7 @@ impl Seen {
         if self.controllers.contains(name) {
             return Some(Cause::NameUsed);
         }
-        if is_given(self.dsas.as_slice(), dsa) || is_given(self.invs.as_slice(), inv) {
+        if self.dsas.contains(dsa) || self.invs.contains(inv) {
             return Some(Cause::IdentifierUsed);
         }
         if self.controllers.len() >= CONTROLLER_LIMIT {
@@ -197,7 +180,7 @@ impl Seen {
         if !self.controllers.contains(name) || !self.images.contains(image) {
             return Some(Cause::UnknownName);
         }
-        if is_given(self.invs.as_slice(), inv) {
+        if self.invs.contains(inv) {
             return Some(Cause::IdentifierUsed);
         }
         None
@@ -271,13 +254,15 @@ impl Seen {
         dsa: &Guid,
         inv: &Guid,
     ) -> Result<(), Failure<Cause>>
-        requires { is_bound self.old.controllers name.now ≡ false }
+        requires name { is_bound self.old.controllers name.now ≡ false }
+        requires dsa { is_bound self.old.dsas dsa.now ≡ false }
+        requires inv { is_bound self.old.invs inv.now ≡ false }
         ensures seen { OnOk result (self.new ≡ with_controller self.old name.now dsa.now inv.now) }
         ensures memory { IfErr result (λ failure. failure ≡ Failure.NoMemory) }
     {
         self.controllers.bind(alloc, name)?;
-        give(&mut self.dsas, dsa)?;
-        give(&mut self.invs, inv)
+        self.dsas.give(dsa)?;
+        self.invs.give(inv)
     }
 
     /// Notes what the event, which may follow, binds and gives. After an error it isn't said what was noted.
@@ -291,7 +276,7 @@ impl Seen {
             Event::Ask { bound, .. } => self.requests.bind(alloc, bound),
             Event::Serve { bound, .. } => self.replies.bind(alloc, bound),
             Event::Backup { bound, .. } => self.images.bind(alloc, bound),
-            Event::Restore { inv, .. } => give(&mut self.invs, inv),
+            Event::Restore { inv, .. } => self.invs.give(inv),
             Event::Install { name, dsa, inv, .. } => self.note_controller(alloc, name, dsa, inv),
             Event::Snapshot { bound, .. } => self.snapshots.bind(alloc, bound),
             _ => Ok(()),

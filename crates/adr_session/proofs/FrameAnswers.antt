@@ -1,5 +1,5 @@
 -- What a frame comes to, by what it says.
-use Rattle.std.proofs.Common.{◌≡◌, inl, ◌∙◌, sym, ap, subst, refl, ℕ, List, Option, Some, None, IfSome, IsSome, Result, Ok, Err, arith}
+use Rattle.std.proofs.Common.{◌≡◌, inl, inr, ◌∙◌, sym, ap, subst, refl, ℕ, List, Option, Some, None, IfSome, IsSome, Result, Ok, Err, arith}
 use Rattle.std.specs.Prelude.{IfOk}
 use Rattle.adr_model.specs.Store.{State}
 use Rattle.adr_law_journal.specs.Areas.{Found}
@@ -44,10 +44,10 @@ module _ {K V : Type 0} (items : V → List ℕ) (k : Ghosts K) (leaves : Leaves
       (same None moments moments (Ok None) (λ f here stands is. (refl, stands, is)) (λ e. cc e)))
 
   -- memory was wanting before anything was done
-  pub wants_memory : (said : Option Said) (before after : Option (List ℕ)) (r : Result (Option V) ServeFault) → r ≡ Err faults.NoMemory → Reacts items k said c c r before after
-  wants_memory said before after r is =
+  pub wants_memory : (said : Option Said) (before after : Option (List ℕ)) → after ≡ before → (r : Result (Option V) ServeFault) → r ≡ Err faults.NoMemory → Reacts items k said c c r before after
+  wants_memory said before after still r is =
       subst (λ (r : Result (Option V) ServeFault). Reacts items k said c c r before after) (sym is)
-      (same said before after (Err faults.NoMemory) (λ f moments stands is. stands_near k f (reacts f moments said) c stands) (λ e. cc e))
+      (same said before after (Err faults.NoMemory) (λ f moments stands is. (stands_near k f (reacts f moments said) c stands, inl (still ∙ is))) (λ e. cc e))
 
   -- the clock failed before anything was done
   pub wants_time : (said : Option Said) (before after : Option (List ℕ)) → after ≡ before → (r : Result (Option V) ServeFault) → r ≡ Err faults.Clock → Reacts items k said c c r before after
@@ -91,9 +91,9 @@ module _ {K V : Type 0} (items : V → List ℕ) (k : Ghosts K) (answers : Found
     (said : Option Said) (before after : Option (List ℕ)) (sent : IsSent answers said before after) where
   sends_so : (f : Found State) (moments rest : List ℕ) → after ≡ Some rest → (r : Result V ServeFault) → MadeSo items k f (answers f) r new → ReactsSo items k f moments (Sends (answers f) rest) (of_answer r) new after
   sends_so f moments rest is (Ok v) made = (made.0, made.1, is)
-  sends_so f moments rest is (Err faults.Disk) made = made
+  sends_so f moments rest is (Err faults.Disk) made = (made, is)
   sends_so f moments rest is (Err faults.Clock) made = absurd made
-  sends_so f moments rest is (Err faults.NoMemory) made = made
+  sends_so f moments rest is (Err faults.NoMemory) made = (made, inr is)
 
   still_up : (r : Result V ServeFault) → IfOk r (λ _. IsSome new.state) → IfOk (of_answer r) (λ _. IsSome new.state)
   still_up (Ok v) up = up

@@ -68,6 +68,7 @@ module _ {K : Type 0} (k : Ghosts K) (t : Traffic) (p : Point) (c : Running K) (
       due = [];
       whole = sym (append-nil p.sent);
       count = 0;
+      short = inl refl;
       net = subst (λ (sent : List ℕ). HasSent t sent after) (sym (append-nil p.sent)) (still_sent part);
       clock = at.clock;
     },
@@ -75,4 +76,4 @@ module _ {K : Type 0} (k : Ghosts K) (t : Traffic) (p : Point) (c : Running K) (
 
   -- memory was wanting before its end
   pub wanting_before : IsPartReceived before after → TakesTurn k t p (Err faults.NoMemory) c after clock
-  wanting_before part = (p, record { near = inl refl; stands = at.stands; net = still_sent part })
+  wanting_before part = (p, record { near = inl refl; stands = at.stands; net = still_sent part; clock = inl at.clock })

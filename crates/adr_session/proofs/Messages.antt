@@ -1,5 +1,5 @@
 -- One message of a connection: what was heard, what it came to, and what was sent.
-use Rattle.std.proofs.Common.{◌≡◌, inl, inr, ℕ, List, ◌++◌, take, Option, Some, None, Result, Ok, Err, refl, sym, ap, subst, ◌∙◌}
+use Rattle.std.proofs.Common.{◌≡◌, ◌⊎◌, inl, inr, ℕ, List, ◌++◌, take, Option, Some, None, Result, Ok, Err, refl, sym, ap, subst, ◌∙◌}
 use Rattle.std.specs.Prelude.{IfSome, IsErrOf, OnErr, OnOk}
 use Rattle.adr_io.specs.declared.Fault.{Fault}
 use Rattle.adr_io.specs.declared.Fault.TheVariants as io
@@ -8,14 +8,14 @@ use Rattle.adr_law_journal.specs.Areas.{Started}
 use Rattle.adr_law_journal.proofs.Told.{at_told}
 use Rattle.adr_journal.specs.declared.keeper.Keeper.{Ghosts}
 use Rattle.adr_controller.specs.Running.{Running}
-use Rattle.adr_outside.specs.Traffic.{Traffic, Sends as SendsAll, SendsFront}
+use Rattle.adr_outside.specs.Traffic.{IsShort, Traffic, Sends as SendsAll, SendsFront}
 use Rattle.adr_frames.specs.Frames.{IsFrame, frame, next_in}
 use Rattle.adr_session.specs.declared.ending.End.{End}
 use Rattle.adr_session.specs.declared.ending.End.TheVariants as ended
 use Rattle.adr_session.specs.declared.ending.ServeFault.{ServeFault}
 use Rattle.adr_session.specs.declared.ending.ServeFault.TheVariants as faults
 use Rattle.adr_session.specs.Talk.{Point, Stops, Reaction, Sends, Leaves, turn, takes, does, reaction}
-use Rattle.adr_session.specs.Told.{FindsNear, FindsOneOf, ReactsSo, ReactsTo, SaysLine, StandsNear, TakesTurn}
+use Rattle.adr_session.specs.Told.{FindsNear, FindsOneOf, IsTimed, IsTimedBehind, IsTimedNear, ReactsSo, ReactsTo, SaysLine, StandsNear, TakesTurn}
 use Rattle.adr_session.specs.Turns.{sent}
 
 -- the message that comes next is what a frame comes to
@@ -31,6 +31,15 @@ pub one_near :
 one_near p rest (Sends a moments) is s (inl here) = (p, inl refl, here)
 one_near p rest (Sends a moments) is s (inr next) = (record { stands = a.0; moments = moments; left = rest; sent = p.sent ++ frame a.1 }, inr is, next)
 one_near p rest (Leaves ends) is s here = (p, inl refl, here)
+
+-- the message that comes next has taken its moment, or not
+timed_behind : (p : Point) (rest : List ℕ) (r : Reaction) → turn p ≡ does p rest r → (clock : Option (List ℕ)) → IsTimed r clock → IsTimedBehind p clock
+timed_behind p rest (Sends a moments) is clock timed = (record { stands = a.0; moments = moments; left = rest; sent = p.sent ++ frame a.1 }, is, timed)
+timed_behind p rest (Leaves ends) is clock timed = absurd timed
+
+timed_near : (p : Point) (rest : List ℕ) (r : Reaction) → turn p ≡ does p rest r → (clock : Option (List ℕ)) → (clock ≡ Some p.moments) ⊎ IsTimed r clock → IsTimedNear p clock
+timed_near p rest r is clock (inl here) = inl here
+timed_near p rest r is clock (inr timed) = inr (timed_behind p rest r is clock timed)
 
 module _ {K V : Type 0} (items : V → List ℕ) (k : Ghosts K) (t : Traffic) (p : Point) (rest : List ℕ) (c : Running K) (clock : Option (List ℕ)) where
   abbrev pub heard : Traffic
@@ -77,7 +86,8 @@ module _ {K V : Type 0} (items : V → List ℕ) (k : Ghosts K) (t : Traffic) (p
       due = frame a.1;
       whole = refl;
       count = sends.0;
-      net = (rest, sends.1 ∙ ap (λ (bytes : List ℕ). Some (record t { left = rest; sent = p.sent ++ take sends.0 (frame bytes) })) reacts.0);
+      short = subst (λ (bytes : List ℕ). IsShort sends.0 (frame bytes)) reacts.0 sends.1;
+      net = (rest, sends.2 ∙ ap (λ (bytes : List ℕ). Some (record t { left = rest; sent = p.sent ++ take sends.0 (frame bytes) })) reacts.0);
       clock = reacts.2;
     },
   )
@@ -89,7 +99,7 @@ module _ {K V : Type 0} (items : V → List ℕ) (k : Ghosts K) (t : Traffic) (p
   sent_none v (Leaves ends) is reacts net now = absurd reacts
   sent_none v (Sends a moments) is reacts net now = (
     record { stands = a.0; moments = moments; left = rest; sent = p.sent ++ frame a.1 },
-    record { near = inr is; stands = reacts.1; net = (rest, now) },
+    record { near = inr is; stands = reacts.1; net = (rest, now); clock = inr (timed_behind p rest (Sends a moments) is clock reacts.2) },
   )
 
   module _ (o : Option V) (v : V) (r : Reaction) (some : o ≡ Some v) (is : turn p ≡ does p rest r) (reacts : Reacted o r) where
@@ -110,12 +120,13 @@ module _ {K V : Type 0} (items : V → List ℕ) (k : Ghosts K) (t : Traffic) (p
     sent_so before net bytes now same (Err io.NoMemory) all front none = sent_none v r is reacts_some net (none refl ∙ now)
 
   wanting_near :
-      (r : Reaction) → turn p ≡ does p rest r → StandsNear k p.stands r c → (net : Option Traffic) → net ≡ Some heard → TakesTurn k t p (Err faults.NoMemory) c net clock
-  wanting_near (Leaves ends) is near net now = (p, record { near = inl refl; stands = near; net = (rest, now) })
-  wanting_near (Sends a moments) is (inl here) net now = (p, record { near = inl refl; stands = here; net = (rest, now) })
-  wanting_near (Sends a moments) is (inr there) net now = (
+      (r : Reaction) → turn p ≡ does p rest r → StandsNear k p.stands r c → IsTimedNear p clock → (net : Option Traffic) → net ≡ Some heard
+      → TakesTurn k t p (Err faults.NoMemory) c net clock
+  wanting_near (Leaves ends) is near timed net now = (p, record { near = inl refl; stands = near; net = (rest, now); clock = timed })
+  wanting_near (Sends a moments) is (inl here) timed net now = (p, record { near = inl refl; stands = here; net = (rest, now); clock = timed })
+  wanting_near (Sends a moments) is (inr there) timed net now = (
     record { stands = a.0; moments = moments; left = rest; sent = p.sent ++ frame a.1 },
-    record { near = inr is; stands = there; net = (rest, now) },
+    record { near = inr is; stands = there; net = (rest, now); clock = timed },
   )
 
   -- the node can't go on
@@ -123,13 +134,19 @@ module _ {K V : Type 0} (items : V → List ℕ) (k : Ghosts K) (t : Traffic) (p
       (bytes : List ℕ) (fault : ServeFault) → next_in p.left ≡ IsFrame bytes rest
       → ReactsSo items k p.stands p.moments (reaction p.stands p.moments bytes) (Err fault) c clock
       → (fault ≡ faults.Clock → SaysLine bytes) → (net : Option Traffic) → net ≡ Some heard → TakesTurn k t p (Err fault) c net clock
-  fails_so bytes faults.Disk next reacts line net now = record { state = reacts; net = (rest, now) }
+  fails_so bytes faults.Disk next reacts line net now = record {
+    state = reacts.0;
+    net = (rest, now);
+    clock = timed_behind p rest (reaction p.stands p.moments bytes) (turn_is p bytes rest next) clock reacts.1;
+  }
   fails_so bytes faults.Clock next reacts line net now = (
     (bytes, rest, next, line refl),
     record { stands = reacts.0; net = (rest, now); clock = reacts.1 },
   )
   fails_so bytes faults.NoMemory next reacts line net now =
-      wanting_near (reaction p.stands p.moments bytes) (turn_is p bytes rest next) reacts net now
+      let r = reaction p.stands p.moments bytes in
+      let is = turn_is p bytes rest next in
+      wanting_near r is reacts.0 (timed_near p rest r is clock reacts.1) net now
 
 -- a fault that is handed on
 pub handed_on :

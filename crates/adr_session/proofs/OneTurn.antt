@@ -39,6 +39,7 @@ module _ {K N C : Type 0} (k : Ghosts K) (n : NetGhosts N) (c : ClockGhosts C) w
     disk_never_falls = omega arith;
     clock = λ is. absurd (no_clock is);
     clock_never_falls = omega arith;
+    no_clock_fault = inr refl;
     fault = fault;
     no_fault = no_fault;
     doors = doors;
@@ -61,6 +62,7 @@ module _ {K N C : Type 0} (k : Ghosts K) (n : NetGhosts N) (c : ClockGhosts C) w
     disk_never_falls = so.disk_never_falls;
     clock = so.clock;
     clock_never_falls = so.clock_never_falls;
+    no_clock_fault = so.no_clock_fault;
     fault = λ is. omega (arith, lines, so.fault is);
     no_fault = ⊎_elim (λ cut. inl cut) (λ same. inr (same ∙ lines)) so.no_fault;
     doors = so.doors ∙ doors;
@@ -71,10 +73,11 @@ module _ {K N C : Type 0} (k : Ghosts K) (n : NetGhosts N) (c : ClockGhosts C) w
       (result : Result (Option End) ServeFault) → Reacts items k (said_in bytes) old new r (c.moments time) (c.moments time_after) → IsInOrder k new
       → ((t : Traffic) (p : Point) → HasHeard k t p bytes old (n.traffic net) (c.moments time) → TakesTurn k t p result new (n.traffic after) (c.moments time_after))
       → IfOk result (λ _. IsSome new.state) → (IsErrOf result faults.Disk → IsErrOf r faults.Disk) → (IsErrOf result faults.Clock → c.faults time < c.faults time_after)
-      → c.faults time ≤ c.faults time_after → (result ≡ Ok (Some ended.Fault) → n.lines net < n.lines after)
+      → c.faults time ≤ c.faults time_after → IsErrOf result faults.Clock ⊎ (c.faults time_after ≡ c.faults time)
+      → (result ≡ Ok (Some ended.Fault) → n.lines net < n.lines after)
       → (result ≡ Ok (Some ended.Fault)) ⊎ (n.lines after ≡ n.lines net) → n.doors after ≡ n.doors net
       → Turns k n c (λ t p. HasHeard k t p bytes old (n.traffic net) (c.moments time)) old new net after time time_after result
-  reacted_turns items old new net after time time_after bytes r result e order turns up disk time_fault time_later fault no_fault doors = record {
+  reacted_turns items old new net after time time_after bytes r result e order turns up disk time_fault time_later no_time_fault fault no_fault doors = record {
     up = up;
     in_order = order;
     turn = turns;
@@ -89,6 +92,7 @@ module _ {K N C : Type 0} (k : Ghosts K) (n : NetGhosts N) (c : ClockGhosts C) w
     disk_never_falls = e.disk_never_falls;
     clock = time_fault;
     clock_never_falls = time_later;
+    no_clock_fault = no_time_fault;
     fault = fault;
     no_fault = no_fault;
     doors = doors;
@@ -98,14 +102,14 @@ module _ {K N C : Type 0} (k : Ghosts K) (n : NetGhosts N) (c : ClockGhosts C) w
   pub sent_turns : {V : Type 0} (items : V → List ℕ) (old new : Running K) (net after : N) (time time_after : C) (bytes : List ℕ) (o : Option V) (said : Result Unit Fault)
       → (let r : Result (Option V) ServeFault = Ok o in Reacts items k (said_in bytes) old new r (c.moments time) (c.moments time_after)) → IsInOrder k new
       → ((t : Traffic) (p : Point) → HasHeard k t p bytes old (n.traffic net) (c.moments time) → TakesTurn k t p (sent said) new (n.traffic after) (c.moments time_after))
-      → c.faults time ≤ c.faults time_after → CountsLine n net after said
+      → c.faults time ≤ c.faults time_after → c.faults time_after ≡ c.faults time → CountsLine n net after said
       → Turns k n c (λ t p. HasHeard k t p bytes old (n.traffic net) (c.moments time)) old new net after time time_after (sent said)
-  sent_turns items old new net after time time_after bytes o (Ok u) e order turns later counts =
-      reacted_turns items old new net after time time_after bytes (Ok o) (Ok None) e order turns e.up (λ is. absurd (cc is)) (λ is. absurd (cc is)) later
+  sent_turns items old new net after time time_after bytes o (Ok u) e order turns later still counts =
+      reacted_turns items old new net after time time_after bytes (Ok o) (Ok None) e order turns e.up (λ is. absurd (cc is)) (λ is. absurd (cc is)) later (inr still)
       (λ is. absurd (cc is)) (inr counts.passed) counts.other
-  sent_turns items old new net after time time_after bytes o (Err io.Failed) e order turns later counts =
-      reacted_turns items old new net after time time_after bytes (Ok o) (Ok (Some ended.Fault)) e order turns e.up (λ is. absurd (cc is)) (λ is. absurd (cc is)) later
+  sent_turns items old new net after time time_after bytes o (Err io.Failed) e order turns later still counts =
+      reacted_turns items old new net after time time_after bytes (Ok o) (Ok (Some ended.Fault)) e order turns e.up (λ is. absurd (cc is)) (λ is. absurd (cc is)) later (inr still)
       (λ is. counts.failed refl) (inl refl) counts.other
-  sent_turns items old new net after time time_after bytes o (Err io.NoMemory) e order turns later counts =
-      reacted_turns items old new net after time time_after bytes (Ok o) (Err faults.NoMemory) e order turns tt (λ is. absurd (cc is)) (λ is. absurd (cc is)) later
+  sent_turns items old new net after time time_after bytes o (Err io.NoMemory) e order turns later still counts =
+      reacted_turns items old new net after time time_after bytes (Ok o) (Err faults.NoMemory) e order turns tt (λ is. absurd (cc is)) (λ is. absurd (cc is)) later (inr still)
       (λ is. absurd (cc is)) (inr (counts.no_memory refl)) counts.other

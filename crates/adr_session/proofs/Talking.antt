@@ -3,7 +3,7 @@ use Rattle.std.proofs.Common.{◌≡◌, ◌⊎◌, inl, inr, ℕ, zero, suc, �
 use Rattle.adr_law_journal.specs.Areas.{Started}
 use Rattle.adr_law_journal.specs.Kept.{FindsState}
 use Rattle.adr_model.specs.Store.{State}
-use Rattle.adr_session.specs.Talk.{Point, Turn, Goes, Stops, Ends, Limit, Talk, turn, talk, goes_on, one_more, Reaches}
+use Rattle.adr_session.specs.Talk.{Point, Turn, Goes, Stops, Ends, Limit, Talk, message_limit, turn, talk, goes_on, one_more, Reaches}
 use Rattle.adr_session.specs.Told.{FindsNear, FindsBehind}
 
 same_point : (p q : Point) (e : Ends) → Reaches 0 p q → p ≡ q
@@ -47,9 +47,9 @@ ends_at (suc k) (suc n) p q e lt reach stops = by (turn p) refl (λ m inner. end
         ap (λ (t : Turn). goes_on p t (λ x. talk k x)) is ∙ ap one_more (on m inner)
 
 -- what a start finds near one of the points is behind some of the messages
-pub near_behind : (n : ℕ) (p q : Point) → Reaches n p q → (s : Started State) → FindsNear q s → FindsBehind p s
-near_behind n p q reach s finds = by finds.1
+pub near_behind : (n : ℕ) (p q : Point) → n < message_limit → Reaches n p q → (s : Started State) → FindsNear q s → FindsBehind p s
+near_behind n p q lt reach s finds = by finds.1
   where
     by : (finds.0 ≡ q) ⊎ (turn q ≡ Goes finds.0) → FindsBehind p s
-    by (inl here) = (n, (q, reach, subst (λ (r : Point). FindsState r.stands.state s) here finds.2))
-    by (inr next) = (suc n, (finds.0, further n p q finds.0 reach next, finds.2))
+    by (inl here) = (n, omega (arith, lt), (q, reach, subst (λ (r : Point). FindsState r.stands.state s) here finds.2))
+    by (inr next) = (suc n, omega (arith, lt), (finds.0, further n p q finds.0 reach next, finds.2))

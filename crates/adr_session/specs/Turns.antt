@@ -37,6 +37,8 @@ pub record Turns {K N C : Type 0} (k : Ghosts K) (n : NetGhosts N) (c : ClockGho
   pub disk_never_falls : k.faults old.keeper ≤ k.faults new.keeper
   pub clock : IsErrOf result faults.Clock → c.faults clock_before < c.faults clock_after
   pub clock_never_falls : c.faults clock_before ≤ c.faults clock_after
+  -- a fault of the clock ends it
+  pub no_clock_fault : IsErrOf result faults.Clock ⊎ (c.faults clock_after ≡ c.faults clock_before)
   pub fault : result ≡ Ok (Some ended.Fault) → n.lines net < n.lines net_after
   pub no_fault : (result ≡ Ok (Some ended.Fault)) ⊎ (n.lines net_after ≡ n.lines net)
   pub doors : n.doors net_after ≡ n.doors net

@@ -1,6 +1,6 @@
 //! What a client says, and what it is answered.
 
-ghost use Rattle.std.specs.Prelude.{◌≡◌, ◌<◌, ◌≤◌, ◌∷◌, ℕ, List, Option, true, IsErrOf, IsSome};
+ghost use Rattle.std.specs.Prelude.{◌≡◌, ◌⊎◌, ◌<◌, ◌≤◌, ◌∷◌, ℕ, List, Option, true, IsErrOf, IsSome};
 ghost use Rattle.adr_session.specs.Lines.{deed_said};
 ghost use Rattle.adr_session.specs.Made.{Makes, Reacts};
 ghost use Rattle.adr_session.specs.Talk.{acts, is_line, said_in};
@@ -73,6 +73,7 @@ fn answer_line<K: Keeper, C: Clock>(
     ensures at_line { IsErrOf result ServeFault.Clock → is_line body.now ≡ true }
     ensures clock { IsErrOf result ServeFault.Clock → C.faults clock.old < C.faults clock.new }
     ensures clock_never_falls { C.faults clock.old ≤ C.faults clock.new }
+    ensures no_clock_fault { IsErrOf result ServeFault.Clock ⊎ (C.faults clock.new ≡ C.faults clock.old) }
 {
     let _ = controller.state();
     if !is_line(body) {
@@ -121,6 +122,7 @@ pub(crate) fn react<K: Keeper, C: Clock>(
     ensures at_line { IsErrOf result ServeFault.Clock → SaysLine bytes.now }
     ensures clock { IsErrOf result ServeFault.Clock → C.faults clock.old < C.faults clock.new }
     ensures clock_never_falls { C.faults clock.old ≤ C.faults clock.new }
+    ensures no_clock_fault { IsErrOf result ServeFault.Clock ⊎ (C.faults clock.new ≡ C.faults clock.old) }
 {
     let _ = controller.state();
     let Some((kind, body)) = bytes.split_first() else {

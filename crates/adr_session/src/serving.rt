@@ -45,13 +45,14 @@ pub fn serve_one<K: Keeper, N: Net, C: Clock>(
     ensures left { (t : Traffic) (p : Point)
         → IsAt K.Keeper t p controller.old (N.traffic net.old) (C.moments clock.old)
         → IfSome (K.told controller.old.keeper) (λ _.
-        LeavesBehind K.Keeper t p result controller.new (N.traffic net.new)) }
+        LeavesBehind K.Keeper t p result controller.new (N.traffic net.new) (C.moments clock.new)) }
     ensures told { IsSome (K.told controller.old.keeper) → IsSome (K.told controller.new.keeper) }
 
     ensures disk { IsErrOf result ServeFault.Disk → K.faults controller.old.keeper < K.faults controller.new.keeper }
     ensures disk_never_falls { K.faults controller.old.keeper ≤ K.faults controller.new.keeper }
     ensures clock { IsErrOf result ServeFault.Clock → C.faults clock.old < C.faults clock.new }
     ensures clock_never_falls { C.faults clock.old ≤ C.faults clock.new }
+    ensures no_clock_fault { IsErrOf result ServeFault.Clock ⊎ (C.faults clock.new ≡ C.faults clock.old) }
 
     // A call of a line fails only where that ends the connection.
     ensures fault { EndsByFault result → N.lines net.old < N.lines net.new }

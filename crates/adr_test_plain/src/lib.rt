@@ -124,7 +124,7 @@ fn put_commit(bytes: &mut Vec<u8>, area: &[u8], written: &[u8], next: Log)
 }
 
 impl<F: Form> Keeper for Plain<F> {
-    ghost use Rattle.std.specs.Prelude.{◌≡◌, false, Some, [], length, vec_capacity, ⊤};
+    ghost use Rattle.std.specs.Prelude.{◌≡◌, false, Some, [], vec_capacity, ⊤};
     ghost use Rattle.std.proofs.Common.{refl};
     ghost use Rattle.adr_law_journal.specs.Areas.{start_of};
     ghost use Rattle.adr_test_plain.specs.Kept.{IsAtBytes, IsNext};
@@ -142,7 +142,7 @@ impl<F: Form> Keeper for Plain<F> {
 
     ghost is_within = { λ _ _ _ _. ⊤ };
 
-    ghost long = { λ p. Some (length p.bytes.items) };
+    ghost content = { λ p. Some p.bytes.items };
 
     ghost told = { λ p. Some (start_of F.head F.area F.following p.bytes.items) };
 

@@ -85,7 +85,7 @@ fn an_image_is_read_and_written_again(rt: HostRuntime) -> Result<(), Fail> {
 /// A byte that is put at a place, and where the image is refused then.
 #[rattlefmt::skip]
 const REFUSED: &[(usize, u8, u64)] = &[
-    (0, 0x42, 0), (9, 3, 6), (10, 0x80, 10), (18, 1, 18), (45, 0, 38),
+    (0, 0x42, 0), (9, 2, 6), (9, 3, 6), (10, 0x80, 10), (18, 1, 18), (45, 0, 38),
     (93, 6, 86), (101, 4, 86), (111, 5, 110), (153, 0, 146),
     // rows: a local USN above the USN, an attribute out of order, a version of 0
     (163, 6, 156), (213, 1, 204), (169, 0, 166),

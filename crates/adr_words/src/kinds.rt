@@ -9,7 +9,7 @@ pub enum DiskCommand {
     Create { name: Text },
     /// Makes a controller of the image that is read.
     Install { name: Text },
-    /// Makes a controller of the image that is read, under the identifier of the one that it was made of.
+    /// Makes a controller of the image that is read, under the identifier that is given.
     Restore { name: Text, dsa: Guid },
     /// Writes the controller's image.
     Backup { name: Text },

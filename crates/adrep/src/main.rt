@@ -9,9 +9,13 @@ use adr_outside::{RandomFresh, SystemClock, TcpNet};
 use std::process::ExitCode;
 use std::{env, io};
 
-/// The words, without the program's name.
+/// The words, without the program's name. No command has a word that isn't UTF-8, so where there is one, none is given.
 fn words(rt: &HostRuntime) -> io::Result<Vec<String>> {
-    Ok(env::args(rt)?.skip(1).collect(rt.alloc())?)
+    match env::args(rt) {
+        Ok(all) => Ok(all.skip(1).collect(rt.alloc())?),
+        Err(e) if e.kind() == io::ErrorKind::OutOfMemory => Err(e),
+        Err(_) => Ok(Vec::new(rt.alloc())),
+    }
 }
 
 fn main(rt: HostRuntime) -> ExitCode {

@@ -1,6 +1,5 @@
 -- Each command does what it should, and its faults have their causes.
 use Rattle.std.proofs.Common.{inl, inr, refl, arith}
-use Rattle.adr_node.specs.declared.ended.Refusal.TheVariants.{NotEmpty}
 use Rattle.adr_cmd.proofs.DiskLemmas.{look_causes, making_causes}
 use Rattle.adr_cmd.proofs.disk.perform.Goals as goal
 
@@ -10,7 +9,6 @@ returns-in-Create-clause-does g c = rw c.in-Create.is (record {
   status_is = c.made.ensures;
   made = c.create-how.ensures.makes;
   reads_so = refl;
-  undrawn = λ e. (c.create-how.ensures.alone NotEmpty e).1;
   untouched = λ e. elim e [ inl e ↦ absurd (c.create-how.ensures.unread e) | inr e ↦ (c.create-how.ensures.fresh_fault e).1 ];
 })
 
@@ -24,8 +22,7 @@ returns-in-Install-clause-does g c = rw c.in-Install.is (record {
   how = c.adopt-how.result.0;
   status_is = c.made-in-Install.ensures;
   made = c.adopt-how.ensures.makes;
-  reads_so = (c.adopt-how.ensures.read, c.adopt-how.ensures.read_whole, λ e. (c.adopt-how.ensures.undrawn e).0);
-  undrawn = λ e. (c.adopt-how.ensures.undrawn e).1;
+  reads_so = (c.adopt-how.ensures.read, c.adopt-how.ensures.read_whole);
   untouched = λ e. elim e [ inl e ↦ (c.adopt-how.ensures.read_fault e).1 | inr e ↦ (c.adopt-how.ensures.fresh_fault e).1 ];
 })
 
@@ -39,8 +36,7 @@ returns-in-Restore-clause-does g c = rw c.in-Restore.is (record {
   how = c.adopt-how-in-Restore.result.0;
   status_is = c.made-in-Restore.ensures;
   made = c.adopt-how-in-Restore.ensures.makes;
-  reads_so = (c.adopt-how-in-Restore.ensures.read, c.adopt-how-in-Restore.ensures.read_whole, λ e. (c.adopt-how-in-Restore.ensures.undrawn e).0);
-  undrawn = λ e. (c.adopt-how-in-Restore.ensures.undrawn e).1;
+  reads_so = (c.adopt-how-in-Restore.ensures.read, c.adopt-how-in-Restore.ensures.read_whole);
   untouched = λ e. elim e [ inl e ↦ (c.adopt-how-in-Restore.ensures.read_fault e).1 | inr e ↦ (c.adopt-how-in-Restore.ensures.fresh_fault e).1 ];
 })
 

@@ -12,7 +12,7 @@ returns-in-Err-clause-unbegun g c =
     let u = c.by_fault in
     let same = kept d c.args.disk mid e.keeps e.cause.never_falls in
     wanting (of_disk d) g.S.Sink c.args.disk mid c.args.sink.now c.args.sink.now u.result
-    (wants_by (of_disk d) c.args.disk mid c.in-Err.fault u.result u.ensures.failed u.ensures.no_memory (λ is. e.cause.failed (ap Err is)) same.told)
+    (wants_by (of_disk d) c.args.disk mid c.in-Err.fault u.result u.ensures.failed u.ensures.no_memory (λ is. e.cause.failed (ap Err is)) (same.content, same.told))
     e.cause.never_falls (still_told (of_disk d) c.args.disk mid same.told) (kept_leaves d g.met.D.Disk.only_now c.args.disk mid e.keeps) same.left refl
 
 pub returns-in-Ok-start-clause-begun : goal.returns-in-Ok-start-clause-begun
@@ -38,5 +38,5 @@ returns-in-Err-start-clause-unbegun g c =
     let o = c.into_disk.ensures in
     let first = both (of_disk d) (of_disk d) e c.args.disk mid j
     (kept d c.args.disk mid c.in-Ok.ensures.keeps c.in-Ok.ensures.cause.never_falls) (onto d (λ j. j.disk) mid j c.new-journal.ensures.disk) in
-    unbegun_over (of_disk d) e c.args.disk c.into_disk.result j k first (off d (λ j. j.disk) k c.into_disk.result o.told o.left o.since o.moment o.faults)
+    unbegun_over (of_disk d) e c.args.disk c.into_disk.result j k first (off d (λ j. j.disk) k c.into_disk.result o.content o.left o.since o.moment o.faults)
     g.S.Sink c.args.sink.now c.start.new.sink c.in-Err-start.why c.in-Err-start.ensures.unbegun

@@ -10,7 +10,7 @@ pub returns-clause-makes : goal.returns-clause-makes
 returns-clause-makes g c =
     let m = c.new_on-made in
     let t = c.tell.ensures in
-    makes_told g.D.Disk g.K.Sink (IsNew (g.F.Fresh.identifiers c.args.fresh.now) (g.F.Fresh.identifiers m.new.fresh)) (codes "create") c.args.name.now
+    makes_told g.D.Disk g.K.Sink (IsNew (g.F.Fresh.identifiers c.args.fresh.now) (g.F.Fresh.identifiers m.new.fresh)) _ (codes "create") c.args.name.now
     c.args.disk m.result.1 c.args.sink.now c.tell.new.sink m.result.0 c.tell.result m.ensures.made t.tells t.disk_fault t.faulty
 
 pub returns-clause-unread : goal.returns-clause-unread
@@ -19,7 +19,7 @@ returns-clause-unread g c = λ is.
     let why : ReadFault ≡ ReadFault → ⊥ = subst W (c.tell.ensures.read_fault is) c.new_on-made.ensures.why in
     why refl
 
-pub returns-clause-alone : goal.returns-clause-alone
-returns-clause-alone g c = λ why is.
+pub returns-clause-only : goal.returns-clause-only
+returns-clause-only g c = λ why is.
     let m = c.new_on-made in
-    m.ensures.alone why (told_refusal g.K.Sink (codes "create") c.args.name.now m.ensures.made.state m.result.0 c.args.sink.now c.tell.new.sink c.tell.result why (c.tell.ensures.tells m.ensures.made.state) is)
+    m.ensures.only why (told_refusal g.K.Sink (codes "create") c.args.name.now m.ensures.made.state m.result.0 c.args.sink.now c.tell.new.sink c.tell.result why (c.tell.ensures.tells m.ensures.made.state) is)

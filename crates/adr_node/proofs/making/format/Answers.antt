@@ -18,4 +18,4 @@ returns-in-Err g c =
     let only_now = g.met.K.Keeper.only_now in
     formats_err g.K.Keeper c.args.state c.args.keeper c.in-Err.keeper c.in-Err.refusal c.unformatted.result e.refused u.fault u.full u.no_memory
     (λ is. let full = e.full is in (keeper_itself g.K.Keeper only_now c.args.keeper c.in-Err.keeper full.0, full.1)) (λ is. (e.fault is).0)
-    (λ is. keeper_as_before g.K.Keeper only_now c.args.keeper c.in-Err.keeper (e.no_memory is)) e.later e.told e.any_moment e.left
+    (λ is. keeper_as_before g.K.Keeper only_now c.args.keeper c.in-Err.keeper (e.unwritten is) (e.no_memory is)) e.later e.told e.any_moment e.left

@@ -10,4 +10,4 @@ returns g c =
     let o = c.into_disk.ensures in
     formats_over (of_disk d) e c.args.state c.args.disk c.into_disk.result c.new-journal.result c.format-made.result.1
     (onto d (λ j. j.disk) c.args.disk c.new-journal.result c.new-journal.ensures.disk)
-    (off d (λ j. j.disk) c.format-made.result.1 c.into_disk.result o.told o.left o.since o.moment o.faults) c.format-made.result.0 c.format-made.ensures
+    (off d (λ j. j.disk) c.format-made.result.1 c.into_disk.result o.content o.left o.since o.moment o.faults) c.format-made.result.0 c.format-made.ensures

@@ -4,7 +4,7 @@ use Rattle.adr_outside.specs.Traffic.{open_line}
 use Rattle.adr_session.specs.Told.{EndsByFault}
 use Rattle.adr_online.specs.Posts.{Fails, done, opened}
 use Rattle.adr_online.specs.Served.{stopped}
-use Rattle.adr_online.proofs.Answering.{answered_so, begun, lines_later, stopped_clock, stopped_disk, stopped_fails, stopped_ok, stopped_only, stopped_still}
+use Rattle.adr_online.proofs.Answering.{answered_so, begun, clock_stopped, lines_later, stopped_clock, stopped_disk, stopped_fails, stopped_ok, stopped_only, stopped_still}
 use Rattle.adr_online.proofs.connecting.answer_all.Goals as goal
 
 pub returns : goal.returns
@@ -34,6 +34,7 @@ returns g c =
       disk_later = e.disk_never_falls;
       clock = λ is. e.clock (stopped_clock s.result is);
       clock_later = e.clock_never_falls;
+      clock_ends = clock_stopped s.result (g.C.Clock.faults c.args.clock.now) (g.C.Clock.faults s.new.clock) e.no_clock_fault;
       fails = subst (λ (x : ℕ). IfOk (stopped s.result) (λ v. Fails v.end before x)) (sym still) (stopped_fails s.result before after e.fault e.no_fault);
       no_fault = subst (λ (x : ℕ). OnErr (stopped s.result) (x ≡ before)) (sym still) (stopped_still s.result before after e.no_fault);
       lines_later = omega arith;

@@ -28,4 +28,4 @@ returns g c =
     told_goes g.K.Keeper g.N.Net g.C.Clock g.S.Sink c.args.number
     (record { controller = c.args.controller.now; net = c.args.net.now; clock = c.args.clock.now; sink = c.args.sink.now })
     c.accept.new.net a.new.controller a.new.net a.new.clock c.in_ok-accept.ensures.opens c.in_ok-accept.ensures.calls c.in_ok-served.served c.in_ok-served.ensures
-    t.new.sink t.result t.ensures.told t.ensures.front t.ensures.only t.ensures.write t.ensures.never_falls
+    t.new.sink t.result t.ensures.told t.ensures.front t.ensures.only t.ensures.unwritten t.ensures.write t.ensures.write_ends t.ensures.never_falls

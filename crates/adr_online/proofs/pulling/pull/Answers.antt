@@ -14,7 +14,7 @@ returns-in-Ok g c =
     let into = c.pull_into-ended in
     let o = c.into_disk.ensures in
     pulls_over (of_disk g.D.Disk) e g.N.Net g.S.Sink c.args.name.now c.args.disk c.into_disk.result b.keeper into.result.1 b.mirrors
-    (off g.D.Disk (λ j. j.disk) into.result.1 c.into_disk.result o.told o.left o.since o.moment o.faults)
+    (off g.D.Disk (λ j. j.disk) into.result.1 c.into_disk.result o.content o.left o.since o.moment o.faults)
     c.args.net.now into.new.net c.args.sink.now into.new.sink into.result.0
     (subst (λ (x : g.row.S.Denot). Pulls e g.N.Net g.S.Sink c.args.name.now
     (record { disk = b.keeper; net = c.args.net.now; sink = x })

@@ -24,5 +24,7 @@ returns g c = λ keeper begun.
       disk_later = u.disk_never_falls;
       doors_later = u.doors_never_fall;
       lines_later = u.lines_never_fall;
+      doors_only = u.doors_only;
+      lines_only = u.lines_only;
     } in
     started_pulls k n s name law.tells law.leaves old new first last up.result begun c.into_keeper.ensures u.in_order u.pulls u.any_moment counted

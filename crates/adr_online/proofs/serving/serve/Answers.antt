@@ -14,7 +14,7 @@ returns-in-Ok g c =
     let s = c.serve_from-ended in
     let o = c.into_disk.ensures in
     serves_over (of_disk g.D.Disk) e c.args.disk c.into_disk.result b.keeper s.result.1 b.mirrors
-    (off g.D.Disk (λ j. j.disk) s.result.1 c.into_disk.result o.told o.left o.since o.moment o.faults)
+    (off g.D.Disk (λ j. j.disk) s.result.1 c.into_disk.result o.content o.left o.since o.moment o.faults)
     g.N.Net g.C.Clock g.S.Sink c.args.count c.args.net.now s.new.net c.args.clock.now s.new.clock c.args.sink.now s.new.sink s.result.0
     (subst (λ (x : g.row.S.Denot). Serves e g.N.Net g.C.Clock g.S.Sink c.args.count
     (record { disk = b.keeper; net = c.args.net.now; clock = c.args.clock.now; sink = x })

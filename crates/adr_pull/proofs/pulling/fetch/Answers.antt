@@ -13,11 +13,11 @@ loop-turn-init g c = record {
       (g.N.Net.traffic c.args.net.now) (g.S.Sink.written c.args.sink.now) at;
   crash = λ t p at.
       let law = g.met.K.Keeper in
-      still_crashes g.K.Keeper law.leaves law.only_now (FindsBehind (course g.K.Keeper t c.args.name.now c.args.partner p)) p.stands c.args.controller.now at.node c.state.ensures.in_order
-      (begins_behind g.K.Keeper t c.args.name.now c.args.partner p);
+      still_crashes g.K.Keeper law.leaves law.only_now (FindsBehind (course g.K.Keeper t c.args.name.now c.args.partner p) reply_limit) p.stands c.args.controller.now at.node c.state.ensures.in_order
+      (begins_behind g.K.Keeper t c.args.name.now c.args.partner p reply_limit);
   told = (λ is. is, λ is. is);
   disk = omega arith;
-  lines = omega arith;
+  lines = refl;
   sink = omega arith;
   doors = refl;
 }
@@ -34,7 +34,7 @@ returns-in_err-over-clause-goes g c = λ t p at.
 
 pub returns-in_err-over-clause-any_moment : goal.returns-in_err-over-clause-any_moment
 returns-in_err-over-clause-any_moment g c = λ t p at.
-    crash_more g.K.Keeper t c.args.name.now c.args.partner p c.loop-turn.turn (c.loop-turn.invariant.at t p at) c.args.controller.now.keeper
+    crash_more g.K.Keeper t c.args.name.now c.args.partner p c.loop-turn.turn reply_limit c.loop-turn-test.true (c.loop-turn.invariant.at t p at) c.args.controller.now.keeper
     c.take_turn.new.controller.keeper (c.loop-turn.invariant.crash t p at) c.loop-turn.invariant.told (c.take_turn.ensures.any_moment t)
 
 pub returns-then-over-clause-goes : goal.returns-then-over-clause-goes
@@ -47,7 +47,7 @@ returns-then-over-clause-goes g c = λ t p at.
 
 pub returns-then-over-clause-any_moment : goal.returns-then-over-clause-any_moment
 returns-then-over-clause-any_moment g c = λ t p at.
-    crash_more g.K.Keeper t c.args.name.now c.args.partner p c.loop-turn.turn (c.loop-turn.invariant.at t p at) c.args.controller.now.keeper
+    crash_more g.K.Keeper t c.args.name.now c.args.partner p c.loop-turn.turn reply_limit c.loop-turn-test.true (c.loop-turn.invariant.at t p at) c.args.controller.now.keeper
     c.take_turn.new.controller.keeper (c.loop-turn.invariant.crash t p at) c.loop-turn.invariant.told (c.take_turn.ensures.any_moment t)
 
 pub loop-turn-preserved : goal.loop-turn-preserved
@@ -59,14 +59,14 @@ loop-turn-preserved g c = record {
       (g.N.Net.traffic c.take_turn.new.net) (g.S.Sink.written c.take_turn.new.sink) c.in_ok-over.over c.if-over.false
       (c.in_ok-over.ensures.turn t (course g.K.Keeper t c.args.name.now c.args.partner p c.loop-turn.turn).0 on.at);
   crash = λ t p at.
-      crash_more g.K.Keeper t c.args.name.now c.args.partner p c.loop-turn.turn (c.loop-turn.invariant.at t p at) c.args.controller.now.keeper
+      crash_more g.K.Keeper t c.args.name.now c.args.partner p c.loop-turn.turn reply_limit c.loop-turn-test.true (c.loop-turn.invariant.at t p at) c.args.controller.now.keeper
       c.take_turn.new.controller.keeper (c.loop-turn.invariant.crash t p at) c.loop-turn.invariant.told (c.take_turn.ensures.any_moment t);
   told = (
     λ is. c.loop-turn.invariant.told.0 (c.take_turn.ensures.counts.told.0 is),
     λ is. c.take_turn.ensures.counts.told.1 (c.loop-turn.invariant.told.1 is),
   );
   disk = omega (arith, c.loop-turn.invariant.disk, c.take_turn.ensures.counts.disk_never_falls);
-  lines = omega (arith, c.loop-turn.invariant.lines, c.take_turn.ensures.counts.lines_never_fall);
+  lines = c.in_ok-over.ensures.counts.no_other (λ e. cc) ∙ c.loop-turn.invariant.lines;
   sink = omega (arith, c.loop-turn.invariant.sink, c.take_turn.ensures.counts.sink_never_falls);
   doors = c.take_turn.ensures.counts.doors ∙ c.loop-turn.invariant.doors;
 }

@@ -8,7 +8,7 @@ pub lines-init : goal.lines-init
 lines-init g c = record {
   at = λ t p is at. begins t p (spoken c.args.text.now) (g.N.Net.traffic c.args.net.now)
       (g.S.Sink.written c.args.sink.now) is at;
-  lines = omega arith;
+  lines = refl;
   sink = omega arith;
   doors = refl;
 }
@@ -35,7 +35,7 @@ lines-preserved g c = record {
       (g.S.Sink.written c.take_if_said.new.sink) (c.lines.invariant.at t p is at)
       c.take_if_said.result c.take_if_said.ensures.passed c.take_if_said.ensures.takes c.in_ok-accepted.accepted
       c.in_ok-accepted.was);
-  lines = omega (arith, c.lines.invariant.lines, c.take_if_said.ensures.counts.lines_never_fall);
+  lines = c.in_ok-accepted.ensures.counts.no_other (λ e. cc) ∙ c.lines.invariant.lines;
   sink = omega (arith, c.lines.invariant.sink, c.take_if_said.ensures.counts.sink_never_falls);
   doors = c.take_if_said.ensures.counts.doors ∙ c.lines.invariant.doors;
 }

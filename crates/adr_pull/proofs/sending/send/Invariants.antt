@@ -10,7 +10,7 @@ invariant-lines g l = record {
   at :
       (t : Traffic) (p : Place) → p.accepted ≡ true → IsAt t p (g.N.Net.traffic l.fn.net) (g.S.Sink.written l.fn.sink)
       → GoesOn t p (spoken l.text) (spoken l.rest) l.all (g.N.Net.traffic l.net) (g.S.Sink.written l.sink);
-  lines : g.N.Net.lines l.fn.net ≤ g.N.Net.lines l.net;
+  lines : g.N.Net.lines l.net ≡ g.N.Net.lines l.fn.net;
   sink : g.S.Sink.faults l.fn.sink ≤ g.S.Sink.faults l.sink;
   doors : g.N.Net.doors l.net ≡ g.N.Net.doors l.fn.net;
 }

@@ -1,4 +1,4 @@
-use Rattle.std.proofs.Common.{◌≡◌, ◌++◌, ◌∷◌, ◌*◌, ◌-◌}
+use Rattle.std.proofs.Common.{◌≡◌, ◌++◌, ◌*◌, ◌-◌}
 use Rattle.std.specs.List.{range_with_len, flat_map}
 use Rattle.adr_run_exercise.specs.Generated.{person_deleted}
 use Rattle.adr_run_exercise.proofs.persons.push_deletions.Given as goal

@@ -23,7 +23,7 @@ pub returns-in_err-greet-clause-answer : goal.returns-in_err-greet-clause-answer
 returns-in_err-greet-clause-answer g c = λ moments.
     let law = g.met.K.Keeper in
     let r = err_from_is_err_and c.from_residual.result c.from_residual.ensures.1 in
-    wants_memory (λ v. v.items) g.K.Keeper law.leaves law.only_now c.args.controller.now c.state.ensures.in_order c.requires.up (said_in (6 ∷ c.args.body.now)) moments moments c.from_residual.result (r.1 ∙ ap Err r.2)
+    wants_memory (λ v. v.items) g.K.Keeper law.leaves law.only_now c.args.controller.now c.state.ensures.in_order c.requires.up (said_in (6 ∷ c.args.body.now)) moments moments refl c.from_residual.result (r.1 ∙ ap Err r.2)
 
 pub returns-in_err-greet-clause-no_clock : goal.returns-in_err-greet-clause-no_clock
 returns-in_err-greet-clause-no_clock g c = λ is.

@@ -1,4 +1,4 @@
-use Rattle.std.proofs.Common.{◌∙◌, ap, refl, sym, subst, ◌∷◌, Option, Some, None, Ok, Err, arith}
+use Rattle.std.proofs.Common.{◌∙◌, inl, inr, ap, refl, sym, subst, ◌∷◌, Option, Some, None, Ok, Err, arith}
 use Rattle.std.proofs.lemmas.Result.{err_from_is_err_and}
 use Rattle.adr_session.specs.declared.ending.ServeFault.TheVariants as faults
 use Rattle.adr_session.specs.Lines.{deed_said}
@@ -23,6 +23,9 @@ returns-then-not-is_line-clause-clock g c = λ is. absurd (cc is)
 pub returns-then-not-is_line-clause-clock_never_falls : goal.returns-then-not-is_line-clause-clock_never_falls
 returns-then-not-is_line-clause-clock_never_falls g c = omega arith
 
+pub returns-then-not-is_line-clause-no_clock_fault : goal.returns-then-not-is_line-clause-no_clock_fault
+returns-then-not-is_line-clause-no_clock_fault g c = inr refl
+
 pub returns-in-Err-Failed-clause-answer : goal.returns-in-Err-Failed-clause-answer
 returns-in-Err-Failed-clause-answer g c =
     let law = g.met.K.Keeper in
@@ -38,11 +41,14 @@ returns-in-Err-Failed-clause-clock g c = λ is. c.now.ensures.failed (c.in-Err-F
 pub returns-in-Err-Failed-clause-clock_never_falls : goal.returns-in-Err-Failed-clause-clock_never_falls
 returns-in-Err-Failed-clause-clock_never_falls g c = c.now.ensures.never_falls
 
+pub returns-in-Err-Failed-clause-no_clock_fault : goal.returns-in-Err-Failed-clause-no_clock_fault
+returns-in-Err-Failed-clause-no_clock_fault g c = inl refl
+
 pub returns-in-Err-NoMemory-clause-answer : goal.returns-in-Err-NoMemory-clause-answer
 returns-in-Err-NoMemory-clause-answer g c =
     let law = g.met.K.Keeper in
     wants_memory (λ v. v.items) g.K.Keeper law.leaves law.only_now c.args.controller.now c.state.ensures.in_order c.requires.up (said_in (4 ∷ c.args.body.now)) (g.C.Clock.moments c.args.clock.now) (g.C.Clock.moments c.now.new.self)
-    (Err faults.NoMemory) refl
+    c.in-Err-NoMemory.ensures.stays (Err faults.NoMemory) refl
 
 pub returns-in-Err-NoMemory-clause-at_line : goal.returns-in-Err-NoMemory-clause-at_line
 returns-in-Err-NoMemory-clause-at_line g c = λ is. sym c.is_line.ensures ∙ c.if-not-is_line.false
@@ -52,6 +58,9 @@ returns-in-Err-NoMemory-clause-clock g c = λ is. absurd (cc is)
 
 pub returns-in-Err-NoMemory-clause-clock_never_falls : goal.returns-in-Err-NoMemory-clause-clock_never_falls
 returns-in-Err-NoMemory-clause-clock_never_falls g c = c.now.ensures.never_falls
+
+pub returns-in-Err-NoMemory-clause-no_clock_fault : goal.returns-in-Err-NoMemory-clause-no_clock_fault
+returns-in-Err-NoMemory-clause-no_clock_fault g c = inr (c.now.ensures.no_memory_counted (c.in-Err-NoMemory.is ∙ ap Err c.in-Err-NoMemory.field-0-is))
 
 pub answer_at-requires-clause-up : goal.answer_at-requires-clause-up
 answer_at-requires-clause-up g c = c.requires.up
@@ -86,6 +95,9 @@ returns-in_err-answer_at-clause-clock g c = λ is.
 pub returns-in_err-answer_at-clause-clock_never_falls : goal.returns-in_err-answer_at-clause-clock_never_falls
 returns-in_err-answer_at-clause-clock_never_falls g c = c.now.ensures.never_falls
 
+pub returns-in_err-answer_at-clause-no_clock_fault : goal.returns-in_err-answer_at-clause-no_clock_fault
+returns-in_err-answer_at-clause-no_clock_fault g c = inr c.in-Ok.ensures.not_counted
+
 pub returns-clause-answer : goal.returns-clause-answer
 returns-clause-answer g c =
     let k = g.K.Keeper in
@@ -105,3 +117,6 @@ returns-clause-clock g c = λ is. absurd (cc is)
 
 pub returns-clause-clock_never_falls : goal.returns-clause-clock_never_falls
 returns-clause-clock_never_falls g c = c.now.ensures.never_falls
+
+pub returns-clause-no_clock_fault : goal.returns-clause-no_clock_fault
+returns-clause-no_clock_fault g c = inr c.in-Ok.ensures.not_counted

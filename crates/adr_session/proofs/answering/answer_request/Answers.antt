@@ -24,7 +24,7 @@ returns-in-Err-Refused-clause-no_clock g c = λ is. cc is
 pub returns-in-Err-NoMemory-clause-answer : goal.returns-in-Err-NoMemory-clause-answer
 returns-in-Err-NoMemory-clause-answer g c = λ moments.
     let law = g.met.K.Keeper in
-    wants_memory (λ v. v.items) g.K.Keeper law.leaves law.only_now c.args.controller.now c.state.ensures.in_order c.requires.up (said_in (1 ∷ c.args.body.now)) moments moments (Err faults.NoMemory) refl
+    wants_memory (λ v. v.items) g.K.Keeper law.leaves law.only_now c.args.controller.now c.state.ensures.in_order c.requires.up (said_in (1 ∷ c.args.body.now)) moments moments refl (Err faults.NoMemory) refl
 
 pub returns-in-Err-NoMemory-clause-no_clock : goal.returns-in-Err-NoMemory-clause-no_clock
 returns-in-Err-NoMemory-clause-no_clock g c = λ is. cc is

@@ -1,4 +1,4 @@
-use Rattle.std.proofs.Common.{rules, ◌≡◌, ◌∙◌, ap, refl, Some, None, Ok, arith}
+use Rattle.std.proofs.Common.{rules, ◌≡◌, ◌∙◌, inr, ap, refl, Some, None, Ok, arith}
 use Rattle.adr_session.specs.Talk.{Gives, said_in}
 use Rattle.adr_session.specs.Made.{Reacts}
 use Rattle.adr_session.proofs.FrameAnswers.{says_nothing}
@@ -15,6 +15,7 @@ returns-in_default g c =
       at_line = λ is. absurd (cc is);
       clock = λ is. absurd (cc is);
       clock_never_falls = omega arith;
+      no_clock_fault = inr refl;
     }
 
 pub answer_request-requires : goal.answer_request-requires
@@ -37,6 +38,7 @@ returns-in-1 g c =
       at_line = λ is. absurd (a.ensures.no_clock is);
       clock = λ is. absurd (a.ensures.no_clock is);
       clock_never_falls = omega arith;
+      no_clock_fault = inr refl;
     }
 
 pub returns-in-4 : goal.returns-in-4
@@ -53,6 +55,7 @@ returns-in-4 g c =
       );
       clock = a.ensures.clock;
       clock_never_falls = a.ensures.clock_never_falls;
+      no_clock_fault = a.ensures.no_clock_fault;
     }
 
 pub returns-in-6 : goal.returns-in-6
@@ -66,6 +69,7 @@ returns-in-6 g c =
       at_line = λ is. absurd (a.ensures.no_clock is);
       clock = λ is. absurd (a.ensures.no_clock is);
       clock_never_falls = omega arith;
+      no_clock_fault = inr refl;
     }
 
 pub returns-in_default-kind : goal.returns-in_default-kind
@@ -83,4 +87,5 @@ returns-in_default-kind g c =
       at_line = λ is. absurd (cc is);
       clock = λ is. absurd (cc is);
       clock_never_falls = omega arith;
+      no_clock_fault = inr refl;
     }

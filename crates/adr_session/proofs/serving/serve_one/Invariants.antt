@@ -20,7 +20,7 @@ invariant-loop-messages g l = record {
       → IfSome (g.K.Keeper.told l.fn.controller.keeper) (λ _. LeavesOnly g.K.Keeper.moment g.K.Keeper.left_since l.fn.controller.keeper l.controller.keeper (FindsBehind p));
   told : IsSome (g.K.Keeper.told l.fn.controller.keeper) → IsSome (g.K.Keeper.told l.controller.keeper);
   disk : g.K.Keeper.faults l.fn.controller.keeper ≤ g.K.Keeper.faults l.controller.keeper;
-  clock : g.C.Clock.faults l.fn.clock ≤ g.C.Clock.faults l.clock;
+  clock : g.C.Clock.faults l.clock ≡ g.C.Clock.faults l.fn.clock;
   lines : g.N.Net.lines l.net ≡ g.N.Net.lines l.fn.net;
   doors : g.N.Net.doors l.net ≡ g.N.Net.doors l.fn.net;
 }

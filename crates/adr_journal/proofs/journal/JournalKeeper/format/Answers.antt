@@ -113,6 +113,9 @@ returns-in-Err-NoMemory-clause-left g c = none_behind g (goal.at.returns-in-Err-
 pub returns-in-Err-NoMemory-clause-no_memory : goal.returns-in-Err-NoMemory-clause-no_memory
 returns-in-Err-NoMemory-clause-no_memory g c = λ refused. found_keeps g.D.Disk g.F.Form (λ j. j.disk) c.args.self.now _ c.reserve.ensures.keeps
 
+pub returns-in-Err-NoMemory-clause-unwritten : goal.returns-in-Err-NoMemory-clause-unwritten
+returns-in-Err-NoMemory-clause-unwritten g c = λ refused. c.reserve.ensures.keeps.content_stays
+
 pub returns-in-Err-NoMemory-clause-again : goal.returns-in-Err-NoMemory-clause-again
 returns-in-Err-NoMemory-clause-again g c = λ refused. still_empty g.D.Disk c.reserve.ensures.keeps c.requires.empty
 

@@ -1,4 +1,4 @@
-use Rattle.std.proofs.Common.{◌≡◌, ℕ, ◌+◌, ◌≤◌, ◌<◌, List, length, Some, Err, refl, sym, ◌∙◌, ap, subst, arith}
+use Rattle.std.proofs.Common.{◌≡◌, ℕ, ◌+◌, ◌≤◌, ◌<◌, List, length, Some, Err, inr, ⊎_elim, refl, sym, ◌∙◌, ap, subst, arith}
 use Rattle.std.proofs.lemmas.Result.{err_from_is_err_and}
 use Rattle.adr_model.specs.Lengths.{Log}
 use Rattle.adr_law_journal.specs.Areas.{found, start_of}
@@ -10,7 +10,7 @@ use Rattle.adr_journal.specs.Ended.{StillReads}
 use Rattle.adr_journal.specs.Kept.{ids_of, layout_of}
 use Rattle.adr_journal.specs.declared.keeper.StartRefusal.TheVariants.{NoMemory}
 use Rattle.adr_journal.proofs.Bounded.{found_within}
-use Rattle.adr_journal.proofs.Found.{for_some, left_before, still_within, read_still, still_found}
+use Rattle.adr_journal.proofs.Found.{for_some, left_before, still_within, read_still, still_found, still_there}
 use Rattle.adr_journal.proofs.journal.JournalKeeper.start.Goals as goal
 
 -- ---- whatever the disk answers
@@ -71,7 +71,22 @@ returns-in_err-state-clause-still g c =
     rw (p.1, p.2) (still_found d g.F.Form (λ j. j.disk) old (record old { disk = new }) refusal
     (read_still d.content d.may_leave d.moment d.left_since old.disk new refusal (λ is. c.in_err-state.ensures.settled (ap Err is)) (c.in-Ok.ensures.same, c.in-Ok.ensures.synced)))
 
+pub returns-in-Err-NoMemory-clause-unwritten : goal.returns-in-Err-NoMemory-clause-unwritten
+returns-in-Err-NoMemory-clause-unwritten g c =
+    let d = g.D.Disk in
+    let old = c.args.self.now.disk in
+    let new = c.read_synced.new.disk in
+    ⊎_elim (λ is. absurd (cc is)) (λ same. inr same)
+    (still_there d.content d.may_leave d.moment d.left_since old new (NoMemory c.in-Err-NoMemory.settled)
+    (subst (λ e. StillReads d.content d.may_leave d.moment d.left_since e old new) c.in-Err-NoMemory.field-0-is c.in-Err-NoMemory.ensures.still))
+
+pub returns-in_err-state-clause-unwritten : goal.returns-in_err-state-clause-unwritten
+returns-in_err-state-clause-unwritten g c = inr c.in-Ok.ensures.same
+
 -- ---- where it is found
+
+pub returns-clause-unwritten : goal.returns-clause-unwritten
+returns-clause-unwritten g c = inr c.in-Ok.ensures.same
 
 pub returns-clause-ok : goal.returns-clause-ok
 returns-clause-ok g c =

@@ -8,7 +8,7 @@ use Rattle.adr_records.specs.Body.{following_in}
 use Rattle.adr_node.specs.Seen.{of_disk}
 use Rattle.adr_node.proofs.Formatted.{begins_behind, begins_short, ends_behind, ends_short, is_left, mapped_told, synced_as_before, synced_leaves}
 use Rattle.adr_node.proofs.Mirrored.{kept_as_before}
-use Rattle.adr_node.proofs.making.begin.Goals as goal
+use Rattle.adr_node.proofs.making.format_empty.Goals as goal
 
 pub format_disk-requires-clause-empty : goal.format_disk-requires-clause-empty
 format_disk-requires-clause-empty g c = λ there is. at_told (g.D.Disk.content c.args.disk) _ there (sym c.in-Ok.ensures.same ∙ is) c.requires.empty

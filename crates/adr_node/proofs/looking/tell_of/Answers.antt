@@ -4,7 +4,7 @@ use Rattle.adr_model.specs.Store.{State}
 use Rattle.adr_law_journal.specs.Areas.{found}
 use Rattle.adr_records.specs.Logged.{IsLogged}
 use Rattle.adr_node.specs.Looks.{Tells, bytes_of, due_of, refuses}
-use Rattle.adr_node.proofs.waking.tell_of.Goals as goal
+use Rattle.adr_node.proofs.looking.tell_of.Goals as goal
 
 pub tell-requires : goal.tell-requires
 tell-requires g c = c.requires.formed c.in-Some.state.now (c.in-Some.ensures.in_order.up c.in-Some.state.now c.in-Some.ensures.state).0.formed

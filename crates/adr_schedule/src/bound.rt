@@ -11,17 +11,17 @@ use std::alloc::Global;
 use std::marker::Model;
 
 /// Names in the order in which they were bound. There may be very many, so they are looked up by hash.
-pub struct Names {
+pub struct BoundNames {
     set: IndexSet<String>,
 }
 
-impl Drop for Names {
+impl Drop for BoundNames {
     fn drop(self) {
-        let Names { set: _set } = self;
+        let BoundNames { set: _set } = self;
     }
 }
 
-impl Model for Names {
+impl Model for BoundNames {
     ghost use Rattle.std.specs.Prelude.{List, ℕ, map, string_bytes};
 
     ghost Value = { List (List ℕ) };
@@ -29,12 +29,12 @@ impl Model for Names {
     ghost view = { λ n. map string_bytes n.set.keys };
 }
 
-impl Names {
+impl BoundNames {
     /// No names.
-    pub fn new(alloc: Global) -> Names
+    pub fn new(alloc: Global) -> BoundNames
         ensures { result ≡ [] }
     {
-        Names {
+        BoundNames {
             set: IndexSet::new(alloc),
         }
     }

@@ -4,7 +4,7 @@ use Rattle.adr_node.specs.Seen.{of_disk}
 use Rattle.adr_node.specs.declared.ended.Looked.{Looked}
 use Rattle.adr_node.proofs.Mirrored.{looks_over, off, over}
 use Rattle.adr_node.proofs.Started.{unbegun_looks}
-use Rattle.adr_node.proofs.waking.look.Goals as goal
+use Rattle.adr_node.proofs.looking.look.Goals as goal
 
 pub returns-in-Ok : goal.returns-in-Ok
 returns-in-Ok g c =
@@ -14,7 +14,7 @@ returns-in-Ok g c =
     let o = c.into_disk.ensures in
     let due = due_of (refuses c.args.sight) (bytes_of c.args.sight c.args.name.now) in
     looks_over (of_disk g.D.Disk) e c.args.disk c.into_disk.result b.keeper l.result.1 b.mirrors
-    (off g.D.Disk (λ j. j.disk) l.result.1 c.into_disk.result o.told o.left o.since o.moment o.faults)
+    (off g.D.Disk (λ j. j.disk) l.result.1 c.into_disk.result o.content o.left o.since o.moment o.faults)
     g.K.Sink due c.args.sink.now l.new.sink l.result.0
     (subst (λ (x : g.row.K.Denot). Looks e g.K.Sink due b.keeper l.result.1 x l.new.sink l.result.0) c.in-Ok.ensures.silent (l.ensures b.keeper b.begun))
 

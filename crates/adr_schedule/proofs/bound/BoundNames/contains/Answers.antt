@@ -4,7 +4,7 @@ use Rattle.std.specs.List.{list_any}
 use Rattle.std.specs.Str.{bytes_eq}
 use Rattle.adr_schedule.specs.Seen.{is_bound}
 use Rattle.adr_schedule.proofs.NameLemmas.{found}
-use Rattle.adr_schedule.proofs.names.Names.contains.Goals as goal
+use Rattle.adr_schedule.proofs.bound.BoundNames.contains.Goals as goal
 
 pub returns : goal.returns
 returns c =

@@ -1,8 +1,8 @@
 use Rattle.std.proofs.Common.{◌∷◌, [], ◌++◌, ap, ◌∙◌}
 use Rattle.adr_schedule.specs.Seen.{is_bound}
 use Rattle.adr_schedule.proofs.NameLemmas.{bound_last}
-use Rattle.adr_schedule.proofs.names.Names.bind.Goals as goal
-use Rattle.adr_schedule.proofs.names.Names.bind.Goals.{in-Ok-insert, in-Err}
+use Rattle.adr_schedule.proofs.bound.BoundNames.bind.Goals as goal
+use Rattle.adr_schedule.proofs.bound.BoundNames.bind.Goals.{in-Ok-insert, in-Err}
 
 pub returns-clause-bound : goal.returns-clause-bound
 returns-clause-bound c =

@@ -1,7 +1,6 @@
 //! What the commands have in common that only look: they begin with a controller, and something is written of it.
 
-ghost use Rattle.std.specs.Prelude.{◌≡◌, ◌<◌, ◌≤◌, Ok, Err, IfOk, IsErrOf, IsSome, OnOk, OnErr, Some};
-ghost use Rattle.adr_io.specs.Told.{Adds, AddsFront};
+ghost use Rattle.std.specs.Prelude.{◌≡◌, Ok, IsErrOf, IsSome, OnOk, Some};
 ghost use Rattle.adr_model.specs.Store.{State as Defined};
 ghost use Rattle.adr_law_journal.specs.Areas.{found};
 ghost use Rattle.adr_model.specs.Lengths.{Log};
@@ -12,13 +11,13 @@ ghost use Rattle.adr_node.specs.Seen.{of_disk};
 
 use crate::beginning::begin;
 use crate::ended::{Looked, Unbegun};
+use crate::lines::write;
 use crate::sights::{Sight, bytes_of, whole_of};
 use adr_call::Text;
 use adr_controller::{Controller, Keeper};
 use adr_disk::Disk;
 use adr_io::{Fault, Sink};
 use adr_state::State;
-use adr_values::NoMemory;
 use std::alloc::Global;
 
 /// How a command ends behind what was written.
@@ -32,19 +31,6 @@ fn ended(whole: Looked, written: Result<(), Fault>) -> Looked
         Err(Fault::Failed) => Looked::WriteFault,
         Err(Fault::NoMemory) => Looked::NoMemory,
     }
-}
-
-/// Writes what was made, if it could be.
-pub(crate) fn write<K: Sink>(made: Result<Vec<u8>, NoMemory>, sink: &mut K) -> Result<(), Fault>
-    ensures ok { OnOk result (IfOk made (λ bytes. Adds (K.written sink.old) (K.written sink.new) bytes.items)) }
-    ensures made { OnOk result (OnErr made ⊥) }
-    ensures front { OnErr result (IfOk made (λ bytes. AddsFront (K.written sink.old) (K.written sink.new) bytes.items)) }
-    ensures unmade { OnErr made (sink.new ≡ sink.old) }
-    ensures never_falls { K.faults sink.old ≤ K.faults sink.new }
-    ensures failed { IsErrOf result Fault.Failed → K.faults sink.old < K.faults sink.new }
-{
-    let bytes = made?;
-    sink.write(bytes.as_slice())
 }
 
 /// Writes what is due of a state.

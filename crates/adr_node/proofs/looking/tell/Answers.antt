@@ -3,7 +3,7 @@ use Rattle.std.specs.Prelude.{OnOk}
 use Rattle.adr_node.specs.Looks.{Due, bytes_of, refuses, whole_of}
 use Rattle.adr_node.specs.declared.ended.Looked.{Looked}
 use Rattle.adr_node.proofs.Writes.{Wrote, no_disk_fault, tells_so, whole_is_no_disk_fault, whole_is_no_write_fault, wrote_all, wrote_front}
-use Rattle.adr_node.proofs.waking.tell.Goals as goal
+use Rattle.adr_node.proofs.looking.tell.Goals as goal
 
 pub returns-clause-tells : goal.returns-clause-tells
 returns-clause-tells g c = λ log.

@@ -1,0 +1,235 @@
+-- In a sound world no answer to a line is that a controller is quarantined.
+use Rattle.std.proofs.Common.{◌≡◌, inl, inr, ℕ, List, [], ◌∷◌, ◌++◌, Bool, true, Option, Some, None, Result, Ok, Err, refl, sym, ap, subst, length, codes, if◌then◌else◌, ◌==◌}
+use Rattle.adr_call.specs.declared.answer.Answer.{Answer}
+use Rattle.adr_call.specs.declared.outcome.Outcome.{Outcome}
+use Rattle.adr_call.specs.declared.outcome.Outcome.TheVariants as outcomes
+use Rattle.adr_call.specs.declared.event.Event.{Event}
+use Rattle.adr_call.specs.declared.event.Event.TheVariants as events
+use Rattle.adr_call.specs.declared.report.Report.{Report}
+use Rattle.adr_call.specs.declared.report.Report.TheVariants as reports
+use Rattle.adr_call.specs.declared.refusal.WriteRefusal.{WriteRefusal}
+use Rattle.adr_call.specs.declared.refusal.ServeRefusal.{ServeRefusal}
+use Rattle.adr_call.specs.declared.refusal.ServeRefusal.TheVariants as serves
+use Rattle.adr_call.specs.declared.refusal.TakeRefusal.{TakeRefusal}
+use Rattle.adr_call.specs.declared.refusal.TakeRefusal.TheVariants as takes
+use Rattle.adr_call.specs.declared.refusal.CollectRefusal.{CollectRefusal}
+use Rattle.adr_call.specs.declared.refusal.UpgradeRefusal.{UpgradeRefusal}
+use Rattle.adr_call.specs.declared.refusal.AdoptRefusal.{AdoptRefusal}
+use Rattle.adr_call.specs.Verbs.{verb_of_report, verb_of_write, word_of}
+use Rattle.adr_disk.specs.declared.memory.Mishap.TheVariants.{Fails, Stops}
+use Rattle.adr_disk.specs.declared.memory.Plan.{Plan}
+use Rattle.adr_model.specs.Member.{Member, Each}
+use Rattle.adr_model.specs.Update.{Identifier}
+use Rattle.adr_model.specs.Store.{Store, State}
+use Rattle.adr_model.specs.Change.{Change}
+use Rattle.adr_model.specs.Lengths.{new_log, area_fits, change_fits}
+use Rattle.adr_model.specs.Serve.{Request, Reply, serve}
+use Rattle.adr_model.specs.Write.{Write, Revive, write_meant, write}
+use Rattle.adr_model.specs.Take.{take}
+use Rattle.adr_model.specs.Collect.{collect, backup, adopt, quarantine}
+use Rattle.adr_model.specs.Upgrade.{upgrade}
+use Rattle.adr_model.specs.Refused.{serve_refused, take_refused}
+use Rattle.adr_model.specs.Replica.{ToWrite, ToTake, ToCollect, ToUpgrade, ToQuarantine, Went, Passed, Met, Pending, Standing, Up, Down, Failed, Replica, on_new_disk, begun, outcome_after, commit_goes, start_goes}
+use Rattle.adr_model.specs.World.{Name, World, Snapshot, Gone, Sent, answer, stays, nothing, bound_at, replica_at, with_replica, of_made, where_up, of_controller, of_image, committed, commit, after_write, writes, after_collect, after_upgrade, asks, after_serve, served, serves_request, after_take, delivered, delivers, backed_up, adopts, put_back, with_plan, stops, starts, reported}
+use Rattle.adr_model.specs.Cycles.{reply_limit, pull_version}
+use Rattle.adr_model.specs.Step.{gives, step, revival, stepped}
+use Rattle.adr_model.specs.Sound.{IsSoundWorld}
+use Rattle.adr_model.specs.Convergence.{NoneRefused}
+use Rattle.adr_law_convergence.proofs.Found.{replica_found}
+use Rattle.adr_law_convergence.proofs.Reached.{within_case}
+use Rattle.adr_law_convergence.proofs.Refusals.{number, refused_by_number}
+use Rattle.adr_law_convergence.proofs.Binding.{IsRequest, IsReply}
+use Rattle.adr_law_convergence.proofs.Exchanges.{IsKeptByCalls, pull_so, pulls_so, ring_so}
+use Rattle.adr_law_convergence.proofs.Stepping.{calls_sound}
+use Rattle.adr_law_headline.proofs.OpenRefusals.{IsOpen, not_quarantined, write_open, serve_open, take_open, collect_open, upgrade_open, adopt_open}
+
+-- ---- who is called
+
+module _ {A : Type 0} (Q : A → Type 0) (w : World) (name : Name) (other : Outcome → A) (absent : Q (other outcomes.Absent)) where
+  made : (act : Replica → A) → ((r : Replica) → Member r w.replicas → Q (act r)) → Q (of_made other (replica_at w name) act)
+  made act acts = by (replica_at w name) refl
+    where
+      by : (o : Option Replica) → replica_at w name ≡ o → Q (of_made other o act)
+      by None is = absent
+      by (Some r) is = acts r (replica_found w name r is).0
+
+  module _ (down : Q (other outcomes.Down)) (failed : Q (other outcomes.Failed)) where
+    where_it_is_up : (standing : Standing) (gone : A) → Q gone → Q (where_up other standing gone)
+    where_it_is_up Up gone is = is
+    where_it_is_up Down gone is = down
+    where_it_is_up Failed gone is = failed
+
+    reached : (act : Replica → A) → ((r : Replica) → Member r w.replicas → Q (act r)) → Q (of_controller w name other act)
+    reached act acts = made (λ r. where_up other r.standing (act r)) (λ r m. where_it_is_up r.standing (act r) (acts r m))
+
+abbrev Goes : Gone → Type 0
+Goes g = IsOpen g.1
+
+abbrev Sends : {A : Type 0} → Sent A → Type 0
+Sends t = IsOpen t.1
+
+-- ---- device calls
+
+calls : (o : Outcome) → IsOpen o → (g : Went) → IsOpen (outcome_after g o)
+calls o is (Passed left) = is
+calls o is (Met place (Stops how)) = refl
+calls o is (Met place Fails) = refl
+
+commits : (w : World) (r : Replica) (p : Pending) (o : Outcome) → IsOpen o → Goes (commit w r p o)
+commits w r p o is = within_case Goes w (change_fits r.device.safe_log r.safe.store p.change) (committed w r p o) refl (calls o is (commit_goes r p))
+
+-- ---- calls of controllers that are not quarantined
+
+module _ (w : World) (sound : IsSoundWorld w) where
+  writes_openly : (name : Name) (what : Write) → Goes (writes w name what)
+  writes_openly name what = reached Goes w name (stays w) refl refl refl (λ r. after_write w r what (write r.safe what w.time)) (λ r m. by r m (write r.safe what w.time) refl)
+    where
+      by : (r : Replica) → Member r w.replicas → (t : Result Change WriteRefusal) → write r.safe what w.time ≡ t → Goes (after_write w r what t)
+      by r m (Err x) e = write_open r.safe (sound.normal r m) what w.time x e
+      by r m (Ok c) e = commits w r (record { call = ToWrite what w.time; change = c }) (outcomes.Usn c.usn) refl
+
+  asks_openly : (name partner : Name) (max version : ℕ) → Sends (asks w name partner max version)
+  asks_openly name partner max version = made Sends w name (nothing w) refl _ (λ r m. made Sends w partner (nothing w) refl _ (λ p k. where_it_is_up Sends w name (nothing w) refl refl refl r.standing _ refl))
+
+  refused_request : (r : Replica) (x : ServeRefusal) → IsOpen (serve_refused x) → Sends (after_serve w r (Err x))
+  refused_request r (serves.RolledBack inv mine shown) is = commits w r (record { call = ToQuarantine; change = quarantine r.safe }) (serve_refused (serves.RolledBack inv mine shown)) is
+  refused_request r _ is = is
+
+  serves_openly : (name : Name) (o : Option Request) → Sends (serves_request w name o)
+  serves_openly name o = reached Sends w name (nothing w) refl refl refl (λ r. served w r o) (λ r m. of r m o)
+    where
+      of : (r : Replica) → Member r w.replicas → (p : Option Request) → Sends (served w r p)
+      of r m None = refl
+      of r m (Some q) = by (serve r.safe q w.time) refl
+        where
+          by : (t : Result Reply ServeRefusal) → serve r.safe q w.time ≡ t → Sends (after_serve w r t)
+          by (Ok reply) e = refl
+          by (Err x) e = refused_request r x (serve_open r.safe (sound.normal r m) q w.time x e)
+
+  refused_reply : (r : Replica) (p : Reply) (x : TakeRefusal) → IsOpen (take_refused x) → Goes (after_take w r p (Err x))
+  refused_reply r p (takes.RolledBack inv mine shown) is = commits w r (record { call = ToQuarantine; change = quarantine r.safe }) (take_refused (takes.RolledBack inv mine shown)) is
+  refused_reply r p _ is = is
+
+  delivers_openly : (name : Name) (o : Option Reply) → Goes (delivers w name o)
+  delivers_openly name o = reached Goes w name (stays w) refl refl refl (λ r. delivered w r o) (λ r m. of r m o)
+    where
+      of : (r : Replica) → Member r w.replicas → (p : Option Reply) → Goes (delivered w r p)
+      of r m None = refl
+      of r m (Some p) = by (take r.safe p) refl
+        where
+          by : (t : Result Change TakeRefusal) → take r.safe p ≡ t → Goes (after_take w r p t)
+          by (Ok c) e = commits w r (record { call = ToTake p; change = c }) (outcomes.Took (length p.items) (length c.writes) c.usn) refl
+          by (Err x) e = refused_reply r p x (take_open r.safe (sound.normal r m) p x e)
+
+  collects_openly : (name : Name) (lifetime : ℕ) → Goes (of_controller w name (stays w) (λ r. after_collect w r lifetime (collect r.safe w.time lifetime)))
+  collects_openly name lifetime = reached Goes w name (stays w) refl refl refl (λ r. after_collect w r lifetime (collect r.safe w.time lifetime)) (λ r m. by r m (collect r.safe w.time lifetime) refl)
+    where
+      by : (r : Replica) → Member r w.replicas → (t : Result Change CollectRefusal) → collect r.safe w.time lifetime ≡ t → Goes (after_collect w r lifetime t)
+      by r m (Err x) e = collect_open r.safe (sound.normal r m) w.time lifetime x e
+      by r m (Ok c) e = commits w r (record { call = ToCollect w.time lifetime; change = c }) (outcomes.Removed (length c.removed)) refl
+
+  upgrades_openly : (name : Name) → Goes (of_controller w name (stays w) (λ r. after_upgrade w r (upgrade r.safe)))
+  upgrades_openly name = reached Goes w name (stays w) refl refl refl (λ r. after_upgrade w r (upgrade r.safe)) (λ r m. by r m (upgrade r.safe) refl)
+    where
+      by : (r : Replica) → Member r w.replicas → (t : Result Change UpgradeRefusal) → upgrade r.safe ≡ t → Goes (after_upgrade w r t)
+      by r m (Err x) e = upgrade_open r.safe (sound.normal r m) x e
+      by r m (Ok c) e = commits w r (record { call = ToUpgrade; change = c }) outcomes.Ok refl
+
+  backs_up_openly : (name : Name) → Sends (of_controller w name (nothing w) (λ r. backed_up w (backup r.safe)))
+  backs_up_openly name = reached Sends w name (nothing w) refl refl refl (λ r. backed_up w (backup r.safe))
+      (λ r m. subst (λ (b : Bool). Sends (backed_up w (if b then None else Some r.safe.store))) (sym (not_quarantined r.safe (sound.normal r m))) refl)
+
+  -- ---- calls that don't look at it
+
+  reports_openly : (name : Name) (what : Report) → Goes (of_controller w name (stays w) (λ r. (w, reported w r.safe what)))
+  reports_openly name what = reached Goes w name (stays w) refl refl refl (λ r. (w, reported w r.safe what)) (λ r m. by r.safe what)
+    where
+      by : (s : State) (what : Report) → IsOpen (reported w s what)
+      by s reports.Directory = refl
+      by s _ = refl
+
+  plans_openly : (name : Name) (plan : Plan) → Goes (of_made (stays w) (replica_at w name) (λ r. with_plan w r plan))
+  plans_openly name plan = made Goes w name (stays w) refl (λ r. with_plan w r plan) (λ r m. refl)
+
+  stops_openly : (name : Name) → Goes (of_made (stays w) (replica_at w name) (λ r. stops w r))
+  stops_openly name = made Goes w name (stays w) refl (λ r. stops w r) (λ r m. refl)
+
+  starts_openly : (name : Name) → Goes (of_made (stays w) (replica_at w name) (λ r. starts w r r.standing))
+  starts_openly name = made Goes w name (stays w) refl (λ r. starts w r r.standing) (λ r m. by r r.standing)
+    where
+      by : (r : Replica) (standing : Standing) → Goes (starts w r standing)
+      by r Up = refl
+      by r Down = calls outcomes.Ok refl (start_goes r)
+      by r Failed = calls outcomes.Ok refl (start_goes r)
+
+  copies_openly : (name : Name) → Sends {A = Snapshot} (of_made (nothing w) (replica_at w name) (λ r. (w, outcomes.Ok, Some (record { state = r.read; log = r.device.read_log }))))
+  copies_openly name = made (Sends {A = Snapshot}) w name (nothing w) refl (λ r. (w, outcomes.Ok, Some (record { state = r.read; log = r.device.read_log }))) (λ r m. refl)
+
+  rolls_back_openly : (name : Name) (o : Option Snapshot) → Goes (of_made (stays w) (replica_at w name) (λ r. put_back w name o))
+  rolls_back_openly name o = made Goes w name (stays w) refl (λ r. put_back w name o) (λ r m. by o)
+    where
+      by : (p : Option Snapshot) → Goes (put_back w name p)
+      by None = refl
+      by (Some s) = refl
+
+-- a controller that is made of an image
+module _ (w : World) where
+  adopts_openly : (placed : Replica → List Replica) (name : Name) (t : Result State AdoptRefusal) → Goes (adopts w placed name t)
+  adopts_openly placed name (Err x) = adopt_open x
+  adopts_openly placed name (Ok s) = within_case Goes w (area_fits (new_log s) s.store) (record w { book = begun w.book s; replicas = placed (on_new_disk name s) }, outcomes.Ok) refl refl
+
+  of_image_openly : (o : Option Store) (act : Store → Gone) → ((i : Store) → Goes (act i)) → Goes (of_image w o act)
+  of_image_openly None act acts = refl
+  of_image_openly (Some i) act acts = acts i
+
+  restores_openly : (name image : Name) (inv : Identifier) → Goes (of_made (stays w) (replica_at w name) (λ r. of_image w (bound_at w.images image) (λ i. adopts w (with_replica w.replicas) name (adopt i r.safe.dsa inv))))
+  restores_openly name image inv = made Goes w name (stays w) refl (λ r. of_image w (bound_at w.images image) (λ i. adopts w (with_replica w.replicas) name (adopt i r.safe.dsa inv)))
+      (λ r m. of_image_openly (bound_at w.images image) (λ i. adopts w (with_replica w.replicas) name (adopt i r.safe.dsa inv)) (λ i. adopts_openly (with_replica w.replicas) name (adopt i r.safe.dsa inv)))
+
+  installs_openly : (name image : Name) (dsa inv : Identifier) → Goes (of_image w (bound_at w.images image) (λ i. adopts w (λ r. w.replicas ++ r ∷ []) name (adopt i dsa inv)))
+  installs_openly name image dsa inv = of_image_openly (bound_at w.images image) (λ i. adopts w (λ r. w.replicas ++ r ∷ []) name (adopt i dsa inv)) (λ i. adopts_openly (λ r. w.replicas ++ r ∷ []) name (adopt i dsa inv))
+
+-- ---- lines
+
+open_calls : IsKeptByCalls IsSoundWorld IsRequest IsReply IsOpen
+open_calls = calls_sound IsOpen (λ w name partner max sound. asks_openly w sound name partner max pull_version) (λ w name q sound is. serves_openly w sound name (Some q)) (λ w name r sound is. delivers_openly w sound name (Some r)) refl
+
+abbrev AreOpen : List Answer → Type 0
+AreOpen answers = Each (λ (a : Answer). IsOpen a.outcome) answers
+
+one : (verb : List ℕ) (name : Name) (o : Outcome) → IsOpen o → AreOpen (answer verb name o ∷ [])
+one verb name o is a (inl e) = subst (λ (b : Answer). IsOpen b.outcome) (sym e) is
+one verb name o is a (inr m) = absurd m
+
+module _ (w : World) (sound : IsSoundWorld w) where
+  revives_openly : (name : Name) (guid : Identifier) (image : Name) (parent : Identifier) (text : List ℕ) (o : Option Store) → AreOpen (stepped w (events.Revive name guid image parent text) (revival name guid parent text o)).1
+  revives_openly name guid image parent text None = one (codes "revive") name outcomes.Absent refl
+  revives_openly name guid image parent text (Some i) = one (codes "revive") name (writes w name (Revive i guid parent text)).1 (writes_openly w sound name (Revive i guid parent text))
+
+  line_open : (e : Event) → AreOpen (step w e).1
+  line_open (events.Controller name dsa inv) = one (codes "controller") name outcomes.Ok refl
+  line_open (events.Time now) = λ a m. absurd m
+  line_open (events.Write name what) = one (word_of (verb_of_write what)) name (writes w name (write_meant what)).1 (writes_openly w sound name (write_meant what))
+  line_open (events.Ask name partner max version bind) = one (codes "ask") name (asks w name partner max version).1 (asks_openly w sound name partner max version)
+  line_open (events.Serve name request bind) = one (codes "serve") name (serves_request w name (bound_at w.requests request)).1 (serves_openly w sound name (bound_at w.requests request))
+  line_open (events.Deliver name reply) = one (codes "deliver") name (delivers w name (bound_at w.replies reply)).1 (delivers_openly w sound name (bound_at w.replies reply))
+  line_open (events.Pull name source max) = (pull_so IsSoundWorld IsRequest IsReply IsOpen open_calls name source max w sound).1
+  line_open (events.Cycle name source max) = (pulls_so IsSoundWorld IsRequest IsReply IsOpen open_calls name source max reply_limit w sound).1
+  line_open (events.Ring name others rounds max) = (ring_so IsSoundWorld IsRequest IsReply IsOpen open_calls (λ n d v. refl) name others rounds max w sound).1
+  line_open (events.Collect name lifetime) = one (codes "collect") name _ (collects_openly w sound name lifetime)
+  line_open (events.Upgrade name) = one (codes "upgrade") name _ (upgrades_openly w sound name)
+  line_open (events.Revive name guid image parent text) = revives_openly name guid image parent text (bound_at w.images image)
+  line_open (events.Backup name bind) = one (codes "backup") name _ (backs_up_openly w sound name)
+  line_open (events.Restore name image inv) = one (codes "restore") name _ (restores_openly (gives w [] (inv ∷ [])) name image inv)
+  line_open (events.Install name dsa image inv) = one (codes "install") name _ (installs_openly (gives w (dsa ∷ []) (inv ∷ [])) name image dsa inv)
+  line_open (events.Snapshot name bind) = one (codes "snapshot") name _ (copies_openly w sound name)
+  line_open (events.Rollback name snapshot) = one (codes "rollback") name _ (rolls_back_openly w sound name (bound_at w.snapshots snapshot))
+  line_open (events.StopAfter name calls how) = one (codes "stop") name _ (plans_openly w sound name (record { calls = calls; mishap = Stops how }))
+  line_open (events.Fail name calls) = one (codes "fail") name _ (plans_openly w sound name (record { calls = calls; mishap = Fails }))
+  line_open (events.Stop name) = one (codes "stop") name _ (stops_openly w sound name)
+  line_open (events.Start name) = one (codes "start") name _ (starts_openly w sound name)
+  line_open (events.Report name what) = one (word_of (verb_of_report what)) name _ (reports_openly w sound name what)
+
+-- whatever the line, also one that may not happen
+pub none_is_quarantined : (w : World) (e : Event) → IsSoundWorld w → NoneRefused 23 (step w e).1
+none_is_quarantined w e sound a m is = let so : IsOpen a.outcome = line_open w sound e a m in let same : (number a.outcome == 23) ≡ true = ap (λ n. n == 23) (refused_by_number 23 a.outcome is) in cc
