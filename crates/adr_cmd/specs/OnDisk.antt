@@ -61,7 +61,7 @@ pub record MakesSo {S K D F : Type 0} (k : SinkGhosts K) (d : DiskGhosts D) (com
   pub reads_so : reads how
   pub untouched : (how ≡ makes.ReadFault) ⊎ (how ≡ makes.FreshFault) → Untouched d before.disk after.disk
 
--- of the source no more is read than an image may have, and so much where the command came further
+-- of the source at most one byte more is read than an image may have, and so much where the command came further
 abbrev pub ReadsImage : {S K D F : Type 0} → SourceGhosts S → AtHand S K D F → AtHand S K D F → Creation → Type 0
 ReadsImage s before after how = IsReadAtMost (s.left before.source) (s.left after.source) × ReadsSo (s.left before.source) (s.left after.source) how
 

@@ -241,7 +241,8 @@ pub record Makes {D K : Type 0} (d : DiskGhosts D) (k : SinkGhosts K) (comes : V
   pub tells : TellsVerdict k verb name verdict before after how
   pub leaves : LeavesVerdict d old new verdict
   pub disk_fault : how ≡ installs.DiskFault → d.faults old < d.faults new
-  -- where it didn't come so far, the bytes stay, and a start finds what it found, also behind a crash, but for such a fault
+  -- where it didn't come so far, the bytes stay, a start finds what it found, and behind a crash nothing that it might not have
+  -- found before, but for such a fault
   pub stays : verdict ≡ None → (how ≡ installs.DiskFault → ⊥) → FindsAsBefore (of_disk d) old new
   -- the state that was begun to be written, if one was, and only over nothing; else nothing has changed of the disk
   pub begun : Option State
