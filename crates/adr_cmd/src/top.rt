@@ -100,9 +100,11 @@ pub fn run<S: Source, K: Sink, D: Disk, N: Net, C: Clock, F: Fresh>(
     // Of every text that is a schedule, wherever its run stands while no database was put back, as none is without a
     // `rollback`: each controller shows the directory of the issued updates that it covers or holds, controllers that cover
     // the same, and hold nothing beyond, show the same, and every write that was acknowledged is in view for whoever has its
-    // identifier. Whole cycles that come in rounds bring together whom they connect, and a `ring` line that is answered ok
-    // tells so. No answer is that a controller was put back, or that an item is broken or incomplete, nor that someone is too
-    // old while everyone covers what was collected. And always each state is formed, and each directory printable.
+    // identifier. A cycle with nothing in its way, where no limit is met, ends with everything or says that there is more.
+    // Whole cycles that come in rounds bring together whom they connect, and a `ring` line that is answered ok tells so. No
+    // controller is quarantined, and no answer is that one is, or was put back, or that an item is broken or incomplete, nor
+    // that someone is too old while everyone covers what was collected. And always each state is formed, and each directory
+    // printable.
     ensures headline { (text : List ℕ) → IsHeadline text }
 
     // Each text is a schedule of some events or has a fault, by the grammar, and so gives one status and one output.
