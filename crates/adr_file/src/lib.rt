@@ -1,4 +1,5 @@
-//! A disk over a file of the present folder. It stands on the trait of `adr_disk`, and tells nothing of its bytes.
+//! A disk over a file of the present folder, and what keeps that file apart from the standard streams. It stands on the trait
+//! of `adr_disk`, and tells nothing of its bytes.
 #![tactic(auto)]
 
 ghost use Rattle.std.specs.Prelude.{◌≡◌, ◌+◌, ◌-◌, ◌^◌, ◌≤◌, Option, Some, None, true, false, ⊤, IfOk, OnOk, OnErr, IsErr, IsErrOf, length};
@@ -6,6 +7,7 @@ ghost use Rattle.adr_disk.specs.Disk.{Counts, IsSpare};
 ghost use Rattle.adr_file.specs.State.{CountsOne};
 
 mod folder;
+mod streams;
 
 use adr_disk::Disk;
 use adr_io::{Failures, Fault};
@@ -14,6 +16,7 @@ use std::fs::{File, Files, OpenFile};
 use std::io;
 use std::marker::Model;
 use std::os::unix::fs::FileExt;
+pub use streams::hold_streams;
 
 /// A file in the present folder, and how many calls have failed.
 ///
@@ -22,14 +25,21 @@ use std::os::unix::fs::FileExt;
 /// isn't there it has no bytes. Before the first sync answers `Ok` the folder is synced too, so that a power failure leaves
 /// the file's name.
 ///
+/// The file is that of its name. Behind the lock, and before a sync answers `Ok`, the name's device, number and count of
+/// links are compared with those of the open file, and its length with what was written; the length before each write,
+/// too. So a file that was removed, moved, replaced or cut is a fault.
+///
 /// Where a sync failed, the file is let go, and each further call but `reserve` fails until `attach` opens it anew. By
-/// then Linux may have forgotten which bytes were not written, and a sync that passes says nothing of those.
+/// then Linux may have forgotten which bytes were not written, and a sync that passes says nothing of those. So `attach`
+/// has the system drop what it keeps of the file in memory and needn't write.
 #[derive(Drop)]
 pub struct FileDisk<R> {
     files: R,
     path: Option<FileName>,
     /// None where it isn't there.
     file: Option<File>,
+    /// How many bytes it has; unknown behind a write that failed.
+    length: Option<u64>,
     /// Whether the folder was synced since the file was looked for or made.
     is_name_safe: bool,
     failures: Failures,
@@ -57,6 +67,7 @@ impl<R: Files<File = File> + Drop> FileDisk<R> {
             files,
             path: None,
             file: None,
+            length: None,
             is_name_safe: false,
             failures: Failures::new(),
         }
@@ -67,6 +78,7 @@ impl<R: Files<File = File> + Drop> FileDisk<R> {
     {
         self.path = None;
         self.file = None;
+        self.length = None;
     }
 
     fn open(&mut self, name: &str) -> io::Result<()>
@@ -79,6 +91,7 @@ impl<R: Files<File = File> + Drop> FileDisk<R> {
             return Err(io::Error::from(io::ErrorKind::InvalidInput));
         };
         self.file = folder::open(&self.files, &path)?;
+        self.length = Some(length_of(&self.file)?);
         self.is_name_safe = false;
         self.path = Some(path);
         Ok(())
@@ -97,10 +110,8 @@ impl<R: Files<File = File> + Drop> FileDisk<R> {
     fn count_bytes(&self) -> io::Result<u64>
         ensures { self.now.is_attached ≡ false → IsErr result }
     {
-        match self.opened()? {
-            Some(file) => Ok(file.metadata()?.len()),
-            None => Ok(0),
-        }
+        self.opened()?;
+        length_of(&self.file)
     }
 
     /// Reads until the buffer is full or the file ends.
@@ -125,6 +136,7 @@ impl<R: Files<File = File> + Drop> FileDisk<R> {
         if self.file.is_none() {
             let file = folder::make(&self.files, path)?;
             self.file = Some(file);
+            self.length = Some(0);
             self.is_name_safe = false;
         }
         Ok(())
@@ -135,9 +147,26 @@ impl<R: Files<File = File> + Drop> FileDisk<R> {
         ensures same { self.new ≡ self.old }
     {
         self.made()?;
+        let Some(file) = &self.file else {
+            return Err(not_attached());
+        };
+        folder::check_length(file, self.length)?;
+        let before = self.length.take();
+        file.write_all_at(bytes, at)?;
+        self.length = before.map(|length| length.max(end_of(at, bytes)));
+        Ok(())
+    }
+
+    /// Fails unless the name is still that of the file, which has the length that it was given, or of none.
+    fn check(&self) -> io::Result<()>
+        ensures { self.now.is_attached ≡ false → IsErr result }
+    {
+        let Some(path) = &self.path else {
+            return Err(not_attached());
+        };
         match &self.file {
-            Some(file) => file.write_all_at(bytes, at),
-            None => Err(not_attached()),
+            Some(file) => folder::check_open(&self.files, path, file, self.length),
+            None => folder::check_free(&self.files, path),
         }
     }
 
@@ -152,7 +181,7 @@ impl<R: Files<File = File> + Drop> FileDisk<R> {
             folder::sync_names(&self.files)?;
             self.is_name_safe = true;
         }
-        Ok(())
+        self.check()
     }
 
     fn fail(&mut self) -> Fault
@@ -161,6 +190,23 @@ impl<R: Files<File = File> + Drop> FileDisk<R> {
         ensures limit { result ≡ Fault.NoMemory → self.old.faults ≡ 2 ^ 64 - 1 }
     {
         self.failures.fail()
+    }
+}
+
+/// How many bytes a file has; where there is none, none.
+fn length_of(file: &Option<File>) -> io::Result<u64> {
+    match file {
+        Some(file) => Ok(file.metadata()?.len()),
+        None => Ok(0),
+    }
+}
+
+/// Where a write ends. One of no bytes makes no file longer.
+fn end_of(at: u64, bytes: &[u8]) -> u64 {
+    if bytes.is_empty() {
+        0
+    } else {
+        at.saturating_add(bytes.len() as u64)
     }
 }
 

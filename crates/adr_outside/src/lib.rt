@@ -7,6 +7,7 @@
 
 mod clock;
 mod fresh;
+mod line;
 mod net;
 mod random;
 mod system;

@@ -2,31 +2,31 @@
 
 ghost use Rattle.std.specs.Prelude.{◌≡◌, ◌≤◌, None, IfOk, length};
 
+use crate::line::Line;
 use crate::net::Net;
 use adr_io::{Failures, Fault};
 use std::io::{self, Read, Write};
 use std::net::{Ipv4Addr, OpenListener, OpenStream, SocketAddr};
+use std::rt::Clock;
 use std::time::Duration;
 
-/// How long one wait for a peer may take, in seconds. Where it takes longer, the call fails.
+/// How long a connect may take, in seconds.
 const PATIENCE: u64 = 60;
 
 /// A listener and an open stream at 127.0.0.1, and how many calls have failed.
 ///
 /// Only `accept` may wait for ever. A connect is given up after 60 seconds. So is a receive or a send, where the peer
-/// lets so long go by without a byte. Small sends aren't held back to be joined to the next (`TCP_NODELAY`). Of a
-/// socket it can't be claimed that sent bytes arrive, who the peer is, or that a call returns at all.
+/// lets so long go by without a byte, and where a whole message takes longer than 60 seconds from its first byte and one
+/// more for each 64 KiB of it. What is received between two sends is one message, and so is what is sent at once. Small
+/// sends aren't held back to be joined to the next (`TCP_NODELAY`). Of a socket it can't be claimed that sent bytes
+/// arrive, who the peer is, or that a call returns at all.
 #[derive(Drop)]
 pub struct TcpNet<R: std::net::Net> {
     net: R,
     listener: Option<R::Listener>,
-    stream: Option<R::Stream>,
+    line: Option<Line<R::Stream>>,
     doors: Failures,
     lines: Failures,
-}
-
-fn patience() -> Duration {
-    Duration::from_secs(PATIENCE)
 }
 
 /// A port of this machine.
@@ -34,15 +34,11 @@ fn address(port: u16) -> SocketAddr {
     SocketAddr::from((Ipv4Addr::LOCALHOST, port))
 }
 
-/// A stream that sends at once, and whose calls don't wait for ever.
-fn patient<S: OpenStream + Drop>(stream: S) -> io::Result<S> {
-    stream.set_nodelay(true)?;
-    stream.set_read_timeout(Some(patience()))?;
-    stream.set_write_timeout(Some(patience()))?;
-    Ok(stream)
+fn not_connected() -> io::Error {
+    io::Error::from(io::ErrorKind::NotConnected)
 }
 
-impl<R: std::net::Net + Drop> TcpNet<R> {
+impl<R: std::net::Net + Clock + Drop> TcpNet<R> {
     /// It listens nowhere yet, and has no connection.
     pub fn new(net: R) -> TcpNet<R>
         ensures doors { ⟦<TcpNet<R> as Net>⟧.doors result ≡ 0 }
@@ -51,45 +47,56 @@ impl<R: std::net::Net + Drop> TcpNet<R> {
         TcpNet {
             net,
             listener: None,
-            stream: None,
+            line: None,
             doors: Failures::new(),
             lines: Failures::new(),
         }
     }
 
-    fn next_stream(&self) -> io::Result<R::Stream> {
+    fn next_line(&self) -> io::Result<Line<R::Stream>> {
         match &self.listener {
             Some(listener) => {
                 let (stream, _) = listener.accept()?;
-                patient(stream)
+                Line::new(stream)
             }
-            None => Err(io::Error::from(io::ErrorKind::NotConnected)),
+            None => Err(not_connected()),
         }
     }
 
-    fn stream_to(&self, port: u16) -> io::Result<R::Stream> {
-        patient(self.net.connect_timeout(address(port), patience())?)
+    fn line_to(&self, port: u16) -> io::Result<Line<R::Stream>> {
+        Line::new(
+            self.net
+                .connect_timeout(address(port), Duration::from_secs(PATIENCE))?,
+        )
     }
 }
 
-/// Reads some bytes of a stream, if there is one.
-fn read_from<S: Read>(stream: &mut Option<S>, into: &mut [u8]) -> io::Result<usize>
+/// Receives some bytes in the open line, if there is one.
+fn receive_in<S: OpenStream + Read + Write + Drop, C: Clock>(
+    line: &mut Option<Line<S>>,
+    clock: &C,
+    into: &mut [u8],
+) -> io::Result<usize>
     ensures { IfOk result (λ n. n ≤ length into.new) }
 {
-    match stream {
-        Some(stream) => stream.read(into),
-        None => Err(io::Error::from(io::ErrorKind::NotConnected)),
+    match line {
+        Some(line) => line.receive(clock, into),
+        None => Err(not_connected()),
     }
 }
 
-fn write_to<S: Write>(stream: &mut Option<S>, bytes: &[u8]) -> io::Result<()> {
-    match stream {
-        Some(stream) => stream.write_all(bytes),
-        None => Err(io::Error::from(io::ErrorKind::NotConnected)),
+fn send_in<S: OpenStream + Read + Write + Drop, C: Clock>(
+    line: &mut Option<Line<S>>,
+    clock: &C,
+    bytes: &[u8],
+) -> io::Result<()> {
+    match line {
+        Some(line) => line.send(clock, bytes),
+        None => Err(not_connected()),
     }
 }
 
-impl<R: std::net::Net + Drop> Net for TcpNet<R> {
+impl<R: std::net::Net + Clock + Drop> Net for TcpNet<R> {
     ghost doors = { λ n. n.doors };
 
     ghost lines = { λ n. n.lines };
@@ -109,10 +116,10 @@ impl<R: std::net::Net + Drop> Net for TcpNet<R> {
     }
 
     fn accept(&mut self) -> Result<(), Fault> {
-        self.stream = None;
-        match self.next_stream() {
-            Ok(stream) => {
-                self.stream = Some(stream);
+        self.line = None;
+        match self.next_line() {
+            Ok(line) => {
+                self.line = Some(line);
                 Ok(())
             }
             Err(_) => Err(self.doors.fail()),
@@ -120,10 +127,10 @@ impl<R: std::net::Net + Drop> Net for TcpNet<R> {
     }
 
     fn connect(&mut self, port: u16) -> Result<(), Fault> {
-        self.stream = None;
-        match self.stream_to(port) {
-            Ok(stream) => {
-                self.stream = Some(stream);
+        self.line = None;
+        match self.line_to(port) {
+            Ok(line) => {
+                self.line = Some(line);
                 Ok(())
             }
             Err(_) => Err(self.doors.fail()),
@@ -131,20 +138,20 @@ impl<R: std::net::Net + Drop> Net for TcpNet<R> {
     }
 
     fn receive(&mut self, into: &mut [u8]) -> Result<usize, Fault> {
-        match read_from(&mut self.stream, into) {
+        match receive_in(&mut self.line, &self.net, into) {
             Ok(count) => Ok(count),
             Err(_) => Err(self.lines.fail()),
         }
     }
 
     fn send(&mut self, bytes: &[u8]) -> Result<(), Fault> {
-        match write_to(&mut self.stream, bytes) {
+        match send_in(&mut self.line, &self.net, bytes) {
             Ok(()) => Ok(()),
             Err(_) => Err(self.lines.fail()),
         }
     }
 
     fn hang_up(&mut self) {
-        self.stream = None;
+        self.line = None;
     }
 }

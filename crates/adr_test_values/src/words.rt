@@ -1,11 +1,10 @@
 //! Values from outside: the tables of the schema, spellings, the bytes of the formats and crash images, all worked out
-//! by hand; and what no clause tells of readers, writers and files.
+//! by hand; and what no clause tells of readers and writers.
 
 use adr_checks::{
     Schema, attribute_kind, attribute_name, attribute_number, check_name, class_name, class_number,
 };
 use adr_disk::{Crash, Disk};
-use adr_file::FileDisk;
 use adr_io::{Fault, ReadSource, Sink, Source, WriteSink};
 use adr_run_disk::MemDisk;
 use adr_token::{Line, Stop, push_class, push_set};
@@ -15,7 +14,6 @@ use adr_values::{
 };
 use adr_wire::{Failure, Malformed, Reader, WireRefusal, Writer};
 use std::alloc::Global;
-use std::fs;
 use std::io::{Error, ErrorKind, Read, Write};
 use std::test::Fail;
 
@@ -422,43 +420,6 @@ fn a_crash_leaves_the_images_of_the_table(rt: HostRuntime) -> Result<(), Fail> {
     Ok(())
 }
 
-/// What a disk in a file answers: without a file, with one, and in a folder that isn't there.
-fn file_written(rt: &HostRuntime) -> [Result<(), Fault>; 5] {
-    let mut disk = FileDisk::new(rt);
-    [
-        disk.sync(),
-        disk.attach("disk_test"),
-        disk.write_at(0, b"abcd"),
-        disk.sync(),
-        disk.attach("no_such_folder/disk_test"),
-    ]
-}
-
-/// How long that file is, and what is read of its end.
-fn file_opened_again(rt: &HostRuntime) -> Result<(u64, usize, [u8; 8]), Fault> {
-    let mut disk = FileDisk::new(rt);
-    disk.attach("disk_test")?;
-    let mut into = [0; 8];
-    let len = disk.len()?;
-    let count = disk.read(2, &mut into)?;
-    Ok((len, count, into))
-}
-
-#[test]
-fn a_file_is_written_and_opened_again(rt: HostRuntime) -> Result<(), Fail> {
-    let due = [
-        Err(Fault::Failed),
-        Ok(()),
-        Ok(()),
-        Ok(()),
-        Err(Fault::Failed),
-    ];
-    assert_eq!(rt; file_written(&rt), due);
-    assert_eq!(rt; file_opened_again(&rt), Ok((4, 2, *b"cd\0\0\0\0\0\0")));
-    fs::remove_file(&rt, "disk_test.adr")?;
-    Ok(())
-}
-
 /// A line that works at every second call.
 #[derive(Drop)]
 struct Flaky {
@@ -509,4 +470,26 @@ fn the_adapters_pass_bytes_and_failures_on(rt: HostRuntime) {
     let mut sink = WriteSink::new(Flaky { works: false });
     let told = [sink.write(b"x"), sink.write(b"x")];
     assert_eq!(rt; told, [Ok(()), Err(Fault::Failed)]);
+}
+
+/// A reader whose first call a signal interrupts.
+#[derive(Drop)]
+struct Interrupted {
+    was: bool,
+}
+
+impl Read for Interrupted {
+    fn read(&mut self, into: &mut [u8]) -> std::io::Result<usize> {
+        if self.was {
+            return Ok(into.len());
+        }
+        self.was = true;
+        Err(Error::from(ErrorKind::Interrupted))
+    }
+}
+
+#[test]
+fn a_read_that_is_interrupted_is_made_again(rt: HostRuntime) {
+    let mut source = ReadSource::new(Interrupted { was: false });
+    assert_eq!(rt; source.read(&mut [0; 3]), Ok(3));
 }

@@ -3,7 +3,7 @@
 #![tactic(auto)]
 
 use adr_cmd::run;
-use adr_file::FileDisk;
+use adr_file::{FileDisk, hold_streams};
 use adr_io::{ReadSource, WriteSink};
 use adr_outside::{RandomFresh, SystemClock, TcpNet};
 use std::process::ExitCode;
@@ -19,6 +19,9 @@ fn words(rt: &HostRuntime) -> io::Result<Vec<String>> {
 }
 
 fn main(rt: HostRuntime) -> ExitCode {
+    let Ok(_held) = hold_streams(&rt) else {
+        return ExitCode::from(6);
+    };
     let Ok(words) = words(&rt) else {
         return ExitCode::from(8);
     };
