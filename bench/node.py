@@ -46,7 +46,9 @@ USAGE = (
     b"usage: adrep replay | exercise N | create NAME | install NAME | restore NAME DSA | backup NAME | show NAME"
     b" | export NAME | serve NAME PORT COUNT | pull NAME PORT | send PORT\n"
 )
-EMPTY = b"ADIM\0\1\0\0\0\1" + bytes(28)
+EMPTY = b"ADIM\0\2\0\0\0\1" + bytes(28)
+# The one that an earlier build made.
+EARLIER = b"ADIM\0\1\0\0\0\1" + bytes(28)
 # seconds that a command may take
 PATIENCE = 120
 # the most messages of a connection
@@ -233,9 +235,9 @@ def walk(node):
     check("a refusal changes nothing", open(node.path("London"), "rb").read() == before)
     node.expect(["install", "Paris"], 9, b"refused Malformed place=34\n", given=EMPTY[:-1])
     node.expect(["install", "Paris"], 9, b"refused Malformed place=38\n", given=EMPTY + b"x")
-    node.expect(["install", "Paris"], 9, b"refused WrongVersion found=2\n", given=b"ADIM\0\2" + EMPTY[6:])
+    node.expect(["install", "Paris"], 9, b"refused WrongVersion found=3\n", given=b"ADIM\0\3" + EMPTY[6:])
     check("a refused image makes no file", not os.path.exists(node.path("Paris")))
-    node.expect(["install", "Paris"], 0, b"install Paris: ok\n", given=EMPTY)
+    node.expect(["install", "Paris"], 0, b"install Paris: ok\n", given=EARLIER)
     node.expect(["restore", "Rome", "#b0"], 0, b"restore Rome: ok\n", given=EMPTY)
     identifiers = [open(node.path(name), "rb").read()[7:39] for name in ("London", "Paris", "Rome")]
     check("restored under the given identifier", identifiers[2][:16] == bytes(15) + b"\xb0", identifiers[2])

@@ -164,6 +164,16 @@ class Reader:
             vector[last] = self.usn()
         return vector
 
+    def vector2(self):
+        """A vector, and the times of its cursors that are known."""
+        vector, times, last = {}, {}, None
+        for _ in range(self.number(4, 0, MOST_CURSORS)):
+            last = self.rising(self.identifier, last)
+            vector[last], time = self.usn(), self.number(8)
+            if time:
+                times[last] = time
+        return vector, times
+
     def object_item(self):
         oid, rows, last = self.oid(), {}, None
         for _ in range(self.number(2, 1)):
@@ -194,6 +204,7 @@ class State:
     usn: int = 0
     quarantined: bool = False
     vector: dict = field(default_factory=dict)
+    times: dict = field(default_factory=dict)
     collected: dict = field(default_factory=dict)
     marks: dict = field(default_factory=dict)
     # By object its rows by attribute, each with its local USN, stamp and content; by link its local USN, stamp and
@@ -336,14 +347,14 @@ def image_link(reader, state, last, locals_):
     return key, (local, stamp, present)
 
 
-def read_image(reader, state):
+def read_image(reader, state, version):
     place = reader.place
     if reader.take(min(4, reader.end - place)) != b"ADIM":
         raise Damaged(place)
-    reader.number(2, 1, 1)
-    state.schema = reader.number(4, 1, 1)
+    reader.number(2, version, version)
+    state.schema = reader.number(4, 1, version)
     state.usn = reader.usn_or_zero()
-    state.vector = reader.vector()
+    state.vector, state.times = (reader.vector(), {}) if version == 1 else reader.vector2()
     place = reader.place
     state.collected = reader.vector()
     if not is_at_most(state.collected, state.vector):
@@ -370,22 +381,26 @@ def read_image(reader, state):
 class Change:
     usn: int
     quarantined: bool
+    schema: int
     mark: tuple
     joined: dict
+    times: dict
     collected: dict
     removed: list
     # Local USN, key and rows by attribute; of a link the key, and what it says under no attribute.
     writes: list
 
 
-def read_body(data, usn):
+def read_body(data, state, version):
     reader = Reader(data, 0, len(data))
     after, quarantined, mark = reader.usn_or_zero(), reader.flag(), None
+    schema = state.schema if version == 1 else reader.number(4, 1, 2)
     if reader.flag():
         mark = reader.identifier(), reader.identifier(), reader.ordered_mark()
-    joined, collected = reader.vector(), reader.vector()
+    joined, times = (reader.vector(), {}) if version == 1 else reader.vector2()
+    collected = reader.vector()
     removed = [reader.oid() for _ in range(reader.number(4))]
-    writes, last = [], usn
+    writes, last = [], state.usn
     for _ in range(reader.number(4)):
         last = reader.rising(reader.usn, last)
         kind = reader.number(1, 1, 2)
@@ -394,7 +409,7 @@ def read_body(data, usn):
         else:
             writes.append((last, kind, reader.link_key(), reader.link_said()))
     reader.done()
-    return Change(after, quarantined, mark, joined, collected, removed, writes)
+    return Change(after, quarantined, schema, mark, joined, times, collected, removed, writes)
 
 
 class CannotFollow(Exception):
@@ -433,7 +448,7 @@ def put_link(state, local, link, said):
 
 def follow(state, change):
     """Takes a record."""
-    need(not state.quarantined and state.usn <= change.usn)
+    need(not state.quarantined and state.usn <= change.usn and state.schema == change.schema)
     need(all(write[0] <= change.usn for write in change.writes))
     for local, kind, key, said in change.writes:
         (put_object if kind == 1 else put_link)(state, local, key, said)
@@ -446,6 +461,7 @@ def follow(state, change):
         state.objects.pop(oid, None)
     need(change.joined.get(state.inv, 0) <= change.usn)
     join(state.vector, change.joined)
+    join(state.times, change.times)
     if change.usn:
         state.vector[state.inv] = max(change.usn, state.vector.get(state.inv, 0))
     state.usn, state.quarantined = change.usn, change.quarantined
@@ -488,16 +504,16 @@ def read_front(data, state):
 
 
 def read_area(data, place, state):
-    """The place behind an area's image."""
+    """An area's version, and the place behind its image."""
     reader = Reader(data, place, len(data))
-    reader.number(2, 1, 1)
+    version = reader.number(2, 1, 2)
     end = place + 6 + reader.number(4)
-    read_image(Reader(data, place + 6, min(end, len(data))), state)
+    read_image(Reader(data, place + 6, min(end, len(data))), state, version)
     if end > len(data):
         raise Damaged(len(data))
     if state.vector.get(state.inv, 0) != state.usn:
         raise Damaged(place + 6)
-    return end
+    return version, end
 
 
 def read_log(data):
@@ -506,7 +522,8 @@ def read_log(data):
         raise Damaged(0)
     state = State()
     second, place = read_front(data, state)
-    first = gate = read_area(data, place, state)
+    version, first = read_area(data, place, state)
+    gate = first
     while gate < len(data):
         if data[gate] != OPEN:
             return state, Log(second, place, first, gate + 1)
@@ -515,7 +532,7 @@ def read_log(data):
         if behind > len(data) or end > len(data):
             raise Damaged(gate)
         try:
-            follow(state, read_body(data[behind:end], state.usn))
+            follow(state, read_body(data[behind:end], state, version))
         except (Damaged, CannotFollow):
             raise Damaged(gate) from None
         gate = end
@@ -529,6 +546,8 @@ def told(state, log):
     for name, vector in (("seen", state.vector), ("collected", state.collected)):
         for inv, usn in sorted(vector.items()):
             yield f"{name} {inv.hex()} {usn}"
+    for inv, time in sorted(state.times.items()):
+        yield f"time {inv.hex()} {time}"
     for dsa, (inv, mark) in sorted(state.marks.items()):
         yield f"mark {dsa.hex()} {inv.hex()} {mark}"
     for oid, rows in sorted(state.objects.items()):

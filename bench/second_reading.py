@@ -29,7 +29,7 @@ ROOT, LOST = 1, 2
 USN_MAX, VERSION_MAX = 2**63 - 1, 2**32 - 1
 ITEM_BYTES = 4 * 1024 * 1024
 # a record's body without writes, marks, cursors and removed objects; the limit of a log; and what records may exceed an image by
-BODY_LEAST, LOG_LIMIT, RECORDS_MORE = 26, 2**33, 65536
+BODY_LEAST, LOG_LIMIT, RECORDS_MORE = 30, 2**33, 65536
 LIMIT = {'Objects': 200000, 'Links': 1000000, 'Cursors': 10000, 'Marks': 10000}
 
 Oid = namedtuple('Oid', 'guid inv usn')
@@ -647,7 +647,7 @@ def take(old, reply):
     state.body += 56
     if reply.last is not None:
         join(state.others, reply.last)
-        state.body += 24 * len(reply.last)
+        state.body += 32 * len(reply.last)
     full(most, sizes(state))
     return state, wrote
 
@@ -701,7 +701,7 @@ class Halt(Exception):
 
 def image_length(state):
     rows = sum(46 + content_length(attr, row.content) for held in state.objects.values() for attr, row in held.items())
-    return (30 + 4 + 24 * len(state.vector()) + 4 + 24 * len(state.purged) + 56 * len(state.marks) + 42 * len(state.objects)
+    return (30 + 4 + 32 * len(state.vector()) + 4 + 24 * len(state.purged) + 56 * len(state.marks) + 42 * len(state.objects)
             + rows + 135 * len(state.links))
 
 

@@ -419,11 +419,20 @@ def pages(place):
     place.expect(["replay"], 0, shown, given=story.encode())
 
 
+# What the pages ask `ss` for, where that isn't installed.
+LISTENING = """command -v ss > /dev/null || ss() { python3 -c '
+for line in list(open("/proc/net/tcp"))[1:]:
+    _, here, _, state, *_ = line.split()
+    if state == "0A": print("LISTEN 127.0.0.1:%d " % int(here.split(":")[1], 16))
+'; }
+"""
+
+
 def walk(place, page, block):
     lines = block.splitlines()
     commands = [line[2:] for line in lines if line.startswith("$ ")]
     due = [line for line in lines if not line.startswith("$ ")]
-    script = f'adrep() {{ "{place.program}" "$@"; }}\n' + "\n".join(commands) + "\nwait\n"
+    script = LISTENING + f'adrep() {{ "{place.program}" "$@"; }}\n' + "\n".join(commands) + "\nwait\n"
     done = subprocess.run(["bash", "-c", script], cwd=place.folder, stdin=subprocess.DEVNULL, capture_output=True, text=True, timeout=PATIENCE)
     # A server in the background writes its lines between the others.
     same(f"{page}: {commands[0]}", sorted(done.stdout.splitlines()), sorted(due))

@@ -45,12 +45,10 @@ pub fn name_of(event: &Event) -> &Text
 {
     match event {
         Event::Controller { name, .. } => name,
-        Event::Write { name, .. } => name,
+        Event::Calls { name, .. } => name,
         Event::Ask { name, .. } => name,
         Event::Serve { name, .. } => name,
         Event::Deliver { name, .. } => name,
-        Event::Collect { name, .. } => name,
-        Event::Upgrade { name, .. } => name,
         Event::Revive { name, .. } => name,
         Event::Backup { name, .. } => name,
         Event::Restore { name, .. } => name,

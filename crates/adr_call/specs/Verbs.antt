@@ -2,6 +2,8 @@
 use Rattle.std.specs.Prelude.{ℕ, List, [], codes}
 use Rattle.adr_call.specs.declared.write.Write.{Write}
 use Rattle.adr_call.specs.declared.write.Write.TheVariants as writes
+use Rattle.adr_call.specs.declared.call.Call.{Call}
+use Rattle.adr_call.specs.declared.call.Call.TheVariants as calls
 use Rattle.adr_call.specs.declared.report.Report.{Report}
 use Rattle.adr_call.specs.declared.report.Report.TheVariants as reports
 use Rattle.adr_call.specs.declared.event.Event.{Event}
@@ -40,7 +42,7 @@ word_of Vector = codes "vector"
 word_of Marks = codes "marks"
 word_of Meta = codes "meta"
 
--- the verb of the line that says a write, and of the one that asks for a report
+-- the verb of the line that says a write or a call, and of the one that asks for a report
 
 abbrev pub verb_of_write : Write → Verb
 verb_of_write (writes.Add guid class parent text values) = Add
@@ -49,6 +51,11 @@ verb_of_write (writes.Rename guid parent text) = Rename
 verb_of_write (writes.Delete guid) = Delete
 verb_of_write (writes.Link from attr to) = Link
 verb_of_write (writes.Unlink from attr to) = Unlink
+
+abbrev pub verb_of_call : Call → Verb
+verb_of_call (calls.Write what) = verb_of_write what
+verb_of_call (calls.Collect lifetime) = Collect
+verb_of_call calls.Upgrade = Upgrade
 
 abbrev pub verb_of_report : Report → Verb
 verb_of_report reports.Directory = Show
@@ -60,15 +67,13 @@ verb_of_report (reports.Meta guid) = Meta
 abbrev pub verb_of : Event → Verb
 verb_of (events.Controller name dsa inv) = Controller
 verb_of (events.Time now) = Time
-verb_of (events.Write name what) = verb_of_write what
+verb_of (events.Calls name what) = verb_of_call what
 verb_of (events.Ask name partner max version bind) = Ask
 verb_of (events.Serve name request bind) = Serve
 verb_of (events.Deliver name reply) = Deliver
 verb_of (events.Pull name source max) = Pull
 verb_of (events.Cycle name source max) = Cycle
 verb_of (events.Ring name others rounds max) = Ring
-verb_of (events.Collect name lifetime) = Collect
-verb_of (events.Upgrade name) = Upgrade
 verb_of (events.Revive name guid image parent text) = Revive
 verb_of (events.Backup name bind) = Backup
 verb_of (events.Restore name image inv) = Restore
@@ -85,15 +90,13 @@ verb_of (events.Report name what) = verb_of_report what
 abbrev pub name_of : Event → List ℕ
 name_of (events.Controller name dsa inv) = name
 name_of (events.Time now) = []
-name_of (events.Write name what) = name
+name_of (events.Calls name what) = name
 name_of (events.Ask name partner max version bind) = name
 name_of (events.Serve name request bind) = name
 name_of (events.Deliver name reply) = name
 name_of (events.Pull name source max) = name
 name_of (events.Cycle name source max) = name
 name_of (events.Ring name others rounds max) = name
-name_of (events.Collect name lifetime) = name
-name_of (events.Upgrade name) = name
 name_of (events.Revive name guid image parent text) = name
 name_of (events.Backup name bind) = name
 name_of (events.Restore name image inv) = name

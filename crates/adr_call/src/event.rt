@@ -1,7 +1,7 @@
 //! The events of a run.
 
 use crate::names::Names;
-use crate::{Report, Text, Write};
+use crate::{Call, Report, Text};
 use adr_disk::Crash;
 use adr_values::Guid;
 
@@ -18,10 +18,10 @@ pub enum Event {
     Time {
         now: u64,
     },
-    /// A client has the controller write.
-    Write {
+    /// A client has the controller do something.
+    Calls {
         name: Text,
-        what: Write,
+        what: Call,
     },
     /// The controller asks a partner for at most `max` items, in version 1 or 2; the request is bound to a name.
     Ask {
@@ -60,15 +60,6 @@ pub enum Event {
         others: Names,
         rounds: u32,
         max: u32,
-    },
-    /// The controller collects its tombstones that are as old as a lifetime, in seconds, or older.
-    Collect {
-        name: Text,
-        lifetime: u64,
-    },
-    /// The controller changes over to schema 2.
-    Upgrade {
-        name: Text,
     },
     /// A client has an object of an image come again, under a new birth.
     Revive {

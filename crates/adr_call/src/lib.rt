@@ -7,6 +7,7 @@
 #![tactic(auto)]
 
 mod answer;
+mod call;
 mod directory;
 mod event;
 mod meta;
@@ -23,6 +24,7 @@ pub use adr_values::{
     Assignments, Birth, Failure, Mark, Oid, SchemaRefusal, Stamp, Text, Times, Values, Vector,
 };
 pub use answer::Answer;
+pub use call::Call;
 pub use directory::{Directory, Entry, EntryLinks, EntryValues, Guids};
 pub use event::Event;
 pub use meta::{Life, MetaLine, MetaLines};
@@ -34,5 +36,5 @@ pub use refusal::{
     WriteRefusal,
 };
 pub use report::Report;
-pub use verb::{Verb, verb_of_write};
+pub use verb::Verb;
 pub use write::Write;

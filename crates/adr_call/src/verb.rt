@@ -1,10 +1,10 @@
 //! The words that lines begin with, and that answers repeat.
 
 ghost use Rattle.std.specs.Prelude.{◌≡◌};
-ghost use Rattle.adr_call.specs.Verbs.{verb_of, verb_of_report, verb_of_write, word_of};
+ghost use Rattle.adr_call.specs.Verbs.{verb_of, verb_of_call, verb_of_report, verb_of_write, word_of};
 
 use crate::event::Event;
-use crate::{Report, Write};
+use crate::{Call, Report, Write};
 
 /// What a line begins with.
 #[derive(Clone, Copy)]
@@ -80,7 +80,7 @@ impl Verb {
 }
 
 /// The verb of the line that says a write.
-pub fn verb_of_write(what: &Write) -> Verb
+fn verb_of_write(what: &Write) -> Verb
     ensures { result ≡ verb_of_write what.now }
 {
     match what {
@@ -90,6 +90,19 @@ pub fn verb_of_write(what: &Write) -> Verb
         Write::Delete { .. } => Verb::Delete,
         Write::Link { .. } => Verb::Link,
         Write::Unlink { .. } => Verb::Unlink,
+    }
+}
+
+impl Call {
+    /// The verb of the line that says the call.
+    pub fn verb(&self) -> Verb
+        ensures { result ≡ verb_of_call self.now }
+    {
+        match self {
+            Call::Write(what) => verb_of_write(what),
+            Call::Collect { .. } => Verb::Collect,
+            Call::Upgrade => Verb::Upgrade,
+        }
     }
 }
 
@@ -113,15 +126,13 @@ impl Event {
         match self {
             Event::Controller { .. } => Verb::Controller,
             Event::Time { .. } => Verb::Time,
-            Event::Write { what, .. } => verb_of_write(what),
+            Event::Calls { what, .. } => what.verb(),
             Event::Ask { .. } => Verb::Ask,
             Event::Serve { .. } => Verb::Serve,
             Event::Deliver { .. } => Verb::Deliver,
             Event::Pull { .. } => Verb::Pull,
             Event::Cycle { .. } => Verb::Cycle,
             Event::Ring { .. } => Verb::Ring,
-            Event::Collect { .. } => Verb::Collect,
-            Event::Upgrade { .. } => Verb::Upgrade,
             Event::Revive { .. } => Verb::Revive,
             Event::Backup { .. } => Verb::Backup,
             Event::Restore { .. } => Verb::Restore,

@@ -10,7 +10,7 @@ use crate::NoMemory;
 use crate::partner_mark::PartnerMark;
 use adr_checks::Schema;
 use adr_update::{Held, Written};
-use adr_values::{Guid, Oid, Vector};
+use adr_values::{Guid, Oid, Times, Vector};
 use std::alloc::Global;
 use std::marker::Model;
 use std::mem::replace;
@@ -35,7 +35,7 @@ impl Mode {
 }
 
 /// What one commit changes: the update sequence number and the mode and the schema after it, the mark of a partner, what is joined
-/// into the vectors of what was seen and of what was collected, the objects that are removed, and the rows that are
+/// into the vectors of what was seen and of what was collected and into the times, the objects that are removed, and the rows that are
 /// written.
 pub struct Change {
     usn: u64,
@@ -43,6 +43,7 @@ pub struct Change {
     schema: Schema,
     mark: Option<(Guid, PartnerMark)>,
     joined: Vector,
+    times: Times,
     purged: Vector,
     removed: Vec<Oid>,
     writes: Vec<Written>,
@@ -56,6 +57,7 @@ impl Drop for Change {
             schema: _,
             mark: _,
             joined: _joined,
+            times: _times,
             purged: _purged,
             removed: _removed,
             writes: _writes,
@@ -72,7 +74,7 @@ impl Model for Change {
     ghost use Rattle.adr_values.specs.Numbered.{numbered};
     ghost use Rattle.adr_change.specs.Mode.{mode_of};
 
-    ghost view = { λ c. record { usn = c.usn; mode = mode_of c.mode; schema = c.schema.number; mark = c.mark; joined = c.joined; times = []; purged = c.purged; removed = c.removed.items; writes = c.writes.items } };
+    ghost view = { λ c. record { usn = c.usn; mode = mode_of c.mode; schema = c.schema.number; mark = c.mark; joined = c.joined; times = c.times; purged = c.purged; removed = c.removed.items; writes = c.writes.items } };
 
     ghost invariant = { λ c. c.schema ≡ numbered c.schema.number };
 }
@@ -84,12 +86,13 @@ impl Change {
         schema: Schema,
         mark: Option<(Guid, PartnerMark)>,
         joined: Vector,
+        times: Times,
         purged: Vector,
         removed: Vec<Oid>,
         writes: Vec<Written>,
     ) -> Change
         ensures { result
-            ≡ record { usn = usn; mode = mode_of mode; schema = schema.number; mark = mark; joined = joined; times = []; purged = purged; removed = removed.items; writes = writes.items } }
+            ≡ record { usn = usn; mode = mode_of mode; schema = schema.number; mark = mark; joined = joined; times = times; purged = purged; removed = removed.items; writes = writes.items } }
     {
         Change {
             usn,
@@ -97,6 +100,7 @@ impl Change {
             schema,
             mark,
             joined,
+            times,
             purged,
             removed,
             writes,
@@ -139,11 +143,11 @@ impl Change {
         &self.joined
     }
 
-    /// A change joins no times.
-    pub fn joins_no_times(&self)
-        ensures { self.now.times ≡ [] }
+    /// The times that are joined, which a last reply brings.
+    pub fn times(&self) -> &Times
+        ensures { result.now ≡ self.now.times }
     {
-        let _ = &self.usn;
+        &self.times
     }
 
     /// What is joined into the vector of what was collected.

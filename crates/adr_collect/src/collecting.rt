@@ -7,7 +7,7 @@ ghost use Rattle.adr_model.specs.Write.{usn_limit};
 
 use crate::deaths::dead_to_collect;
 use adr_call::{CollectRefusal, Failure};
-use adr_state::{Change, Mode, State, USN_LIMIT, Vector};
+use adr_state::{Change, Mode, State, Times, USN_LIMIT, Vector};
 use std::alloc::Global;
 
 /// The change of a collection at a time, both in seconds: dead objects go whose births and deaths the vector covers,
@@ -35,6 +35,7 @@ pub fn collect(
         state.schema(),
         None,
         Vector::new(alloc),
+        Times::new(alloc),
         dead.covering,
         dead.objects,
         Vec::new(alloc),

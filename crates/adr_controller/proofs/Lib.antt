@@ -2,4 +2,5 @@ mod Results
 mod Bounding
 mod Orders
 mod Calling
+mod Telling
 mod Keeps

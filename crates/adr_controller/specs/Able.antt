@@ -5,6 +5,7 @@ use Rattle.adr_call.specs.declared.refusal.ServeRefusal.{ServeRefusal}
 use Rattle.adr_call.specs.declared.refusal.ServeRefusal.TheVariants as serves
 use Rattle.adr_call.specs.declared.refusal.TakeRefusal.{TakeRefusal}
 use Rattle.adr_call.specs.declared.refusal.TakeRefusal.TheVariants as takes
+use Rattle.adr_call.specs.declared.call.Call.{Call}
 use Rattle.adr_call.specs.declared.write.Write.{Write as Asked}
 use Rattle.adr_model.specs.Store.{State}
 use Rattle.adr_model.specs.Change.{Change, after}
@@ -12,7 +13,8 @@ use Rattle.adr_model.specs.Serve.{Request, Reply, serve}
 use Rattle.adr_model.specs.Take.{take}
 use Rattle.adr_model.specs.Write.{write, write_meant}
 use Rattle.adr_model.specs.Collect.{collect, quarantine}
-use Rattle.adr_model.specs.Replica.{change_in}
+use Rattle.adr_model.specs.Replica.{change_in, change_of}
+use Rattle.adr_model.specs.Client.{call_meant}
 use Rattle.adr_state.specs.Refusal.{IsOverfull}
 use Rattle.adr_journal.specs.declared.keeper.Keeper.{Ghosts}
 
@@ -31,6 +33,10 @@ AllFollow k changes = (s : State) (c : Change) → k.is_formed s → changes s �
 -- a client's write at a time
 abbrev pub written_in : Asked → ℕ → State → Option Change
 written_in what now s = change_in (write s (write_meant what) now)
+
+-- a client's call at a time
+abbrev pub called_in : Call → ℕ → State → Option Change
+called_in what now s = change_of s (call_meant what now)
 
 -- a refused request, and a refused reply, that shows a controller that it was put back
 abbrev pub request_shows : ServeRefusal → Bool

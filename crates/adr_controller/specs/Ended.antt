@@ -24,6 +24,12 @@ abbrev pub call_hindrance : {T R : Type 0} → Result T (CallRefusal R) → Opti
 call_hindrance (Ok _) = None
 call_hindrance (Err refusal) = hindrance_in refusal
 
+-- what is answered to a call, its refusal too
+abbrev pub as_told : {T R A B : Type 0} → (T → A) → (R → B) → Result T (CallRefusal R) → Result A (CallRefusal B)
+as_told ok refused (Ok made) = Ok (ok made)
+as_told ok refused (Err (Refused refusal)) = Err (Refused (refused refusal))
+as_told ok refused (Err (Hindered hindrance)) = Err (Hindered hindrance)
+
 -- what a refusal of a keeper is to its controller
 abbrev pub kept_as : KeeperRefusal → Hindrance
 kept_as keeps.DiskFault = DiskFault

@@ -19,7 +19,7 @@ use std::alloc::Global;
 
 impl<K: Keeper> Controller<K> {
     /// Collects tombstones at a time and after a lifetime, both in seconds; it answers how many objects went.
-    pub fn collect(
+    pub(crate) fn collect(
         &mut self,
         alloc: Global,
         now: u64,

@@ -5,6 +5,7 @@
 //! state. It knows nothing of the other controllers of a world, of names, or of the bytes of messages.
 #![tactic(auto)]
 
+mod client;
 mod collecting;
 mod controller;
 mod keeping;

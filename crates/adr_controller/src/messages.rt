@@ -20,7 +20,7 @@ use crate::refusal::{CallRefusal, Hindrance};
 use adr_call::{Failure, ServeRefusal, TakeRefusal};
 use adr_cycle::{Reply, Request, ask, count, serve, take};
 use adr_journal::Keeper;
-use adr_state::{Change, Mode, State, Vector};
+use adr_state::{Change, Mode, State, Times, Vector};
 use adr_values::{Guid, NoMemory};
 use std::alloc::Global;
 
@@ -72,6 +72,7 @@ fn quarantine(alloc: Global, state: &State) -> Change
         state.schema(),
         None,
         Vector::new(alloc),
+        Times::new(alloc),
         Vector::new(alloc),
         Vec::new(alloc),
         Vec::new(alloc),

@@ -15,7 +15,7 @@ use adr_state::{
     CURSOR_LIMIT, Change, LINK_LIMIT, MARK_LIMIT, Mode, OBJECT_LIMIT, PartnerMark, State,
     USN_LIMIT, is_same,
 };
-use adr_values::{Mark, Vector};
+use adr_values::{Mark, Times, Vector};
 use std::alloc::Global;
 
 /// What a reply does to a controller: the change that it makes, or why it is refused (MS-DRSR, processing a
@@ -160,6 +160,7 @@ fn taken_change(
         state.schema(),
         Some((reply.source(), mark)),
         joined,
+        Times::new(alloc),
         Vector::new(alloc),
         Vec::new(alloc),
         taking.into_writes(),

@@ -1,5 +1,5 @@
 -- The body of a record is spelled in one way.
-use Rattle.std.proofs.Common.{◌≡◌, ℕ, true, List, ◌++◌, length, Option, Some, None, refl, sym, ap, subst}
+use Rattle.std.proofs.Common.{◌≡◌, ℕ, Bool, true, false, cond, eqb, List, [], ◌++◌, length, Option, Some, None, Ok, refl, sym, ap, subst}
 use Rattle.std.specs.List.{flat_map}
 use Rattle.std.specs.Ordering.{nat_cmp}
 use Rattle.adr_wire.specs.Reading.{Reading, as_at, where_at, then_at, elements_at, is_above}
@@ -7,16 +7,19 @@ use Rattle.adr_wire.specs.Fields.{u32_at, usn_at, usn0_at, flag_at, u32, u64, fl
 use Rattle.adr_wire.specs.Composites.{oid_at, oid, vector_at, vector}
 use Rattle.adr_wire.specs.Spelling.{IsSpelling}
 use Rattle.adr_wire.specs.Ranges.{IsU32, IsFlag, IsUsn, IsUsn0, IsOid, IsCursors, InTurn}
-use Rattle.adr_wire.proofs.Combining.{made, passed, both, pair, elements_spelled, counted}
+use Rattle.adr_wire.proofs.Combining.{made, passed, both, pair, nothing, elements_spelled, counted}
 use Rattle.adr_wire.proofs.FieldLaws.{u32_spelled, usn_spelled, usn0_spelled, flag_spelled}
 use Rattle.adr_wire.proofs.CompositeLaws.{oid_spelled}
 use Rattle.adr_wire.proofs.OptionalLaws.{if_there_spelled}
 use Rattle.adr_wire.proofs.VectorLaws.{vector_spelled}
 use Rattle.adr_image.specs.Image.{kept_above, kept}
 use Rattle.adr_image.specs.Ranged.{IsMarked}
+use Rattle.adr_image.specs.Whole.{is_schema}
 use Rattle.adr_wire.specs.Pieces.{piece_at, piece, IsPiece}
 use Rattle.adr_wire.proofs.Pieces.{piece_spelled}
-use Rattle.adr_image.specs.Body.{Write, write_above, write, IsWrite, one_name, mark_if_at, mark_if, IsMarkIf, removed_at, writes_at, body_at, body, AreRemoved, AreWrites, IsBody}
+use Rattle.adr_wire.specs.Timed.{IsTimed, timed, timed_at}
+use Rattle.adr_wire.proofs.TimedLaws.{timed_spelled}
+use Rattle.adr_image.specs.Body.{Write, write_above, write, IsWrite, one_name, mark_if_at, mark_if, IsMarkIf, number_at, number, NumberBy, IsNumber, removed_at, writes_at, body_at, body, AreRemoved, AreWrites, IsBody}
 use Rattle.adr_image.proofs.ImageLaws.{kept_spelled}
 
 write_spelled : (last : Option ℕ) → IsSpelling (IsWrite last) write (write_above last)
@@ -42,17 +45,26 @@ counted_from {K} {E} key P s element laws last C c count law =
     (λ es q. ((length es, es), refl, (q.0, (q.1, refl)), refl))
     (λ p q b. ((subst C (sym q.1.1) q.0, q.1.0), ap (λ (n : ℕ). c n ++ flat_map s p.1) q.1.1))
 
-module _ (before : ℕ) where
-  writes_spelled : IsSpelling (AreWrites before) (λ ws. u32 (length ws) ++ flat_map write ws) (writes_at before)
-  unfolding writes_at
-  writes_spelled = counted_from (λ (w : Write). w.0) IsWrite write write_above write_spelled (Some before) IsU32 u32 u32_at u32_spelled
+writes_spelled : (before : ℕ) → IsSpelling (AreWrites before) (λ ws. u32 (length ws) ++ flat_map write ws) (writes_at before)
+unfolding writes_at
+writes_spelled before = counted_from (λ (w : Write). w.0) IsWrite write write_above write_spelled (Some before) IsU32 u32 u32_at u32_spelled
 
-  pub body_spelled : IsSpelling (IsBody before) body (body_at before)
+number_spelled : (version schema : ℕ) → IsSpelling (IsNumber version schema) (number version) (number_at version schema)
+unfolding number_at
+number_spelled version schema = by (eqb version 1)
+  where
+    by : (b : Bool) → IsSpelling (NumberBy b schema) (λ n. cond b [] (u32 n)) (cond b (λ rest. Ok (schema, rest)) (where_at is_schema u32_at))
+    by true = nothing (λ n. n ≡ schema) (λ n. []) schema refl refl (λ n e. e)
+    by false = passed IsU32 u32 u32_at u32_spelled is_schema
+
+module _ (version before schema : ℕ) where
+  pub body_spelled : IsSpelling (IsBody version before schema) (body version) (body_at version before schema)
   unfolding body_at
   body_spelled =
       pair IsUsn0 u64 usn0_at usn0_spelled _ _ _
       (pair IsFlag flag flag_at flag_spelled _ _ _
+      (pair (IsNumber version schema) (number version) (number_at version schema) (number_spelled version schema) _ _ _
       (pair IsMarkIf mark_if mark_if_at mark_if_spelled _ _ _
+      (pair (IsTimed version) (timed version) (timed_at version) (timed_spelled version) _ _ _
       (pair IsCursors vector vector_at vector_spelled _ _ _
-      (pair IsCursors vector vector_at vector_spelled _ _ _
-      (pair AreRemoved (λ os. u32 (length os) ++ flat_map oid os) removed_at removed_spelled (AreWrites before) (λ ws. u32 (length ws) ++ flat_map write ws) (writes_at before) writes_spelled)))))
+      (pair AreRemoved (λ os. u32 (length os) ++ flat_map oid os) removed_at removed_spelled (AreWrites before) (λ ws. u32 (length ws) ++ flat_map write ws) (writes_at before) (writes_spelled before)))))))

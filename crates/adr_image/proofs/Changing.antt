@@ -8,13 +8,14 @@ use Rattle.adr_values.specs.Vector.{Cursors}
 use Rattle.adr_wire.specs.declared.refusal.Malformed.{Malformed}
 use Rattle.adr_wire.specs.Fields.{u8_at, u32_at, usn_at, usn0_at, flag_at}
 use Rattle.adr_wire.specs.Composites.{link_at, object_at, oid_at, vector_at}
+use Rattle.adr_wire.specs.Timed.{Timed, timed_at}
 use Rattle.adr_wire.specs.Pieces.{Piece, OfRows, OfLink, piece_of, piece_at}
 use Rattle.adr_wire.specs.Reading.{Rest, Read, Reading, ◌>>=◌, where_at, then_at, elements_at, gathered_at, is_above, keyed}
 use Rattle.adr_wire.proofs.Loops.{behind_count, begins, refuses_is, refuses_then, with_front}
 use Rattle.adr_model.specs.Change.{Item, Written}
 use Rattle.adr_law_lengths.specs.Written.{link_item, object_item}
 use Rattle.adr_image.specs.Image.{Marked}
-use Rattle.adr_image.specs.Body.{Write, one_name, write_above, mark_if_at, removed_at, writes_at, body_at}
+use Rattle.adr_image.specs.Body.{Write, one_name, write_above, mark_if_at, number_at, removed_at, writes_at, body_at}
 use Rattle.adr_image.specs.Changes.{item_of, written_of}
 use Rattle.adr_image.specs.Seen.{GivesSeen}
 use Rattle.adr_image.proofs.Steps.{then_ok}
@@ -50,33 +51,37 @@ keeps_write before items last written ws w keeps is = (
 
 -- ---- a body, field by field
 
-module _ (before : ℕ) where
-  abbrev pub b6 : Reading (List Oid × List Write)
-  b6 = then_at removed_at (λ _. writes_at before)
+module _ (version before schema : ℕ) where
+  abbrev pub b7 : Reading (List Oid × List Write)
+  b7 = then_at removed_at (λ _. writes_at before)
 
-  abbrev pub b5 : Reading (Cursors × (List Oid × List Write))
-  b5 = then_at vector_at (λ _. b6)
+  abbrev pub b6 : Reading (Cursors × (List Oid × List Write))
+  b6 = then_at vector_at (λ _. b7)
 
-  abbrev pub b4 : Reading (Cursors × (Cursors × (List Oid × List Write)))
-  b4 = then_at vector_at (λ _. b5)
+  abbrev pub b5 : Reading (Timed × (Cursors × (List Oid × List Write)))
+  b5 = then_at (timed_at version) (λ _. b6)
 
-  abbrev pub b3 : Reading (Option Marked × (Cursors × (Cursors × (List Oid × List Write))))
-  b3 = then_at mark_if_at (λ _. b4)
+  abbrev pub b4 : Reading (Option Marked × (Timed × (Cursors × (List Oid × List Write))))
+  b4 = then_at mark_if_at (λ _. b5)
 
-  abbrev pub b2 : Reading (Bool × (Option Marked × (Cursors × (Cursors × (List Oid × List Write)))))
+  abbrev pub b3 : Reading (ℕ × (Option Marked × (Timed × (Cursors × (List Oid × List Write)))))
+  b3 = then_at (number_at version schema) (λ _. b4)
+
+  abbrev pub b2 : Reading (Bool × (ℕ × (Option Marked × (Timed × (Cursors × (List Oid × List Write))))))
   b2 = then_at flag_at (λ _. b3)
 
-  pub body_read : (r0 r1 r2 r3 r4 r5 r6 r7 : Rest) (usn : ℕ) (quarantined : Bool) (mark : Option Marked) (joined purged : Cursors) (removed : List Oid) (writes : List Write)
-      → usn0_at r0 ≡ Ok (usn, r1) → flag_at r1 ≡ Ok (quarantined, r2) → mark_if_at r2 ≡ Ok (mark, r3) → vector_at r3 ≡ Ok (joined, r4) → vector_at r4 ≡ Ok (purged, r5) → removed_at r5 ≡ Ok (removed, r6)
-      → writes_at before r6 ≡ Ok (writes, r7) → body_at before r0 ≡ Ok ((usn, (quarantined, (mark, (joined, (purged, (removed, writes)))))), r7)
+  pub body_read : (r0 r1 r2 r3 r4 r5 r6 r7 r8 : Rest) (usn : ℕ) (quarantined : Bool) (number : ℕ) (mark : Option Marked) (joined : Timed) (purged : Cursors) (removed : List Oid) (writes : List Write)
+      → usn0_at r0 ≡ Ok (usn, r1) → flag_at r1 ≡ Ok (quarantined, r2) → number_at version schema r2 ≡ Ok (number, r3) → mark_if_at r3 ≡ Ok (mark, r4) → timed_at version r4 ≡ Ok (joined, r5) → vector_at r5 ≡ Ok (purged, r6)
+      → removed_at r6 ≡ Ok (removed, r7) → writes_at before r7 ≡ Ok (writes, r8) → body_at version before schema r0 ≡ Ok ((usn, (quarantined, (number, (mark, (joined, (purged, (removed, writes))))))), r8)
   unfolding body_at
-  body_read r0 r1 r2 r3 r4 r5 r6 r7 usn quarantined mark joined purged removed writes p1 p2 p3 p4 p5 p6 p7 =
-      then_ok usn0_at (λ _. b2) r0 r1 r7 usn (quarantined, (mark, (joined, (purged, (removed, writes))))) p1
-      (then_ok flag_at (λ _. b3) r1 r2 r7 quarantined (mark, (joined, (purged, (removed, writes)))) p2
-      (then_ok mark_if_at (λ _. b4) r2 r3 r7 mark (joined, (purged, (removed, writes))) p3
-      (then_ok vector_at (λ _. b5) r3 r4 r7 joined (purged, (removed, writes)) p4
-      (then_ok vector_at (λ _. b6) r4 r5 r7 purged (removed, writes) p5
-      (then_ok removed_at (λ _. writes_at before) r5 r6 r7 removed writes p6 p7)))))
+  body_read r0 r1 r2 r3 r4 r5 r6 r7 r8 usn quarantined number mark joined purged removed writes p1 p2 p3 p4 p5 p6 p7 p8 =
+      then_ok usn0_at (λ _. b2) r0 r1 r8 usn (quarantined, (number, (mark, (joined, (purged, (removed, writes)))))) p1
+      (then_ok flag_at (λ _. b3) r1 r2 r8 quarantined (number, (mark, (joined, (purged, (removed, writes))))) p2
+      (then_ok (number_at version schema) (λ _. b4) r2 r3 r8 number (mark, (joined, (purged, (removed, writes)))) p3
+      (then_ok mark_if_at (λ _. b5) r3 r4 r8 mark (joined, (purged, (removed, writes))) p4
+      (then_ok (timed_at version) (λ _. b6) r4 r5 r8 joined (purged, (removed, writes)) p5
+      (then_ok vector_at (λ _. b7) r5 r6 r8 purged (removed, writes) p6
+      (then_ok removed_at (λ _. writes_at before) r6 r7 r8 removed writes p7 p8))))))
 
 -- ---- pieces, behind their kind
 

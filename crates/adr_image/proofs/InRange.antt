@@ -273,7 +273,7 @@ module _ (s : Store) (f : IsFormedStore s) (q : IsSpelled s) where
   in_range = record {
     schema = q.schema;
     usn = q.usn;
-    vector = (f.vector, q.vector);
+    seen = record { cursors = (f.vector, q.vector); times = f.times; moments = q.times };
     purged = ((f.purged, q.purged), f.purged_within);
     marks = (count_fits (length s.marks) mark_limit f.limits.marks (omega arith), marked None s.marks (unchain identifier_order (λ (k : Marked). k.0) None s.marks q.partners tt) q.marks f.marks);
     objects = (count_fits (length os) object_limit few_objects (omega arith), all_objects s.schema s.usn os ls right);

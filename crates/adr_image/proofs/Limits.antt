@@ -11,7 +11,6 @@ use Rattle.std.proofs.lemmas.Bool.{leb-true, eqb-true}
 use Rattle.std.proofs.lemmas.Cmp.{nat_cmp_total, tied_itself}
 use Rattle.adr_values.specs.declared.stamp.Oid.{Oid}
 use Rattle.adr_values.specs.Order.{object_order}
-use Rattle.adr_values.proofs.Moments.{no_times}
 use Rattle.adr_wire.specs.Ranges.{InTurn}
 use Rattle.adr_model.specs.Member.{Each}
 use Rattle.adr_model.specs.Update.{Update}
@@ -111,8 +110,8 @@ ordered last (x ∷ xs) h k (inr m) = ordered (Some x.0) xs h.1 k m
 pub formed : (p : Parts) → AreParts p → IsFormedStore (store_of p)
 formed p q =
     record {
-      vector = q.vector.0;
-      times = no_times p.vector;
+      vector = q.seen.cursors.0;
+      times = q.seen.times;
       purged = q.purged.0.0;
       purged_within = q.purged.1;
       marks = ordered None p.marks q.marks.1;

@@ -8,12 +8,13 @@ use Rattle.adr_values.specs.Numbered.{numbered}
 use Rattle.adr_wire.specs.Fields.{u16, u32, u64, flag}
 use Rattle.adr_wire.specs.Composites.{oid, stamp, content, row, link, link_key, link_stamp}
 use Rattle.adr_wire.specs.Ranges.{InTurn}
-use Rattle.adr_law_lengths.proofs.Lengths.{content_long, oid_long, stamp_long, vector_long}
+use Rattle.adr_law_lengths.proofs.Lengths.{content_long, oid_long, stamp_long, timed_long, vector_long}
 use Rattle.adr_image.specs.declared.rows.Before.{Before}
 use Rattle.adr_wire.specs.Gathering.{Along}
 use Rattle.adr_image.specs.Image.{HeldRow, Rows, HeldLink, Marked, held_row, object, held_link, kept, no_rows, with_held, Earlier, no_objects, with_rows, Linked, with_link}
 use Rattle.adr_image.specs.Whole.{Parts, image_of, dead_of, no_links}
 use Rattle.adr_image.specs.Ranged.{IsHeldRow, IsObjectIn, IsLinkIn, IsMarked, AreParts}
+use Rattle.adr_image.specs.Stored.{image_version}
 use Rattle.adr_image.specs.Lengths.{total, held_length, object_length, parts_length}
 
 flat_long : {E : Type 0} (s : E → List ℕ) (f : E → ℕ) (es : List E) → AllByRecursion (λ e. length (s e) ≡ f e) es → length (flat_map s es) ≡ total f es
@@ -72,10 +73,10 @@ module _ (usn : ℕ) (table : Table) where
       let all = length-append (link_key l.1.0) (link_stamp l.1.1 ++ flag l.1.2) in
       omega (arith, a, b, s, key, key2, st, tail, all, flag_long l.1.2, u64_long l.0, u64_long l.1.1.created, u16_long l.1.0.attr, length-append (u64 l.0) (link l.1))
 
-pub image_long : (p : Parts) → AreParts p → length (image_of p) ≡ parts_length p
+pub image_long : (p : Parts) → AreParts p → length (image_of image_version p) ≡ parts_length p
 unfolding u16 u32 u64
 image_long p q =
-    let v = vector_long p.vector q.vector in
+    let v = timed_long (p.vector, p.times) (record { is = q.seen; none = λ one. absurd (cc) }) in
     let w = vector_long p.purged q.purged.0 in
     let ks = flat_long kept (λ _. 56) p.marks (turn_all (λ (k : Marked). k.0) IsMarked (λ k. length (kept k) ≡ 56) kept_long None p.marks q.marks.1) in
     let ks2 = same_each 56 p.marks in

@@ -8,17 +8,18 @@ use Rattle.adr_values.specs.declared.stamp.Oid.{Oid}
 use Rattle.adr_wire.specs.Composites.{Row, row, oid, vector}
 use Rattle.adr_wire.specs.Fields.{flag, u16, u32, u64}
 use Rattle.adr_wire.specs.Pieces.{Piece, OfRows, OfLink, IsPiece, piece}
+use Rattle.adr_wire.specs.Timed.{timed}
 use Rattle.adr_wire.specs.Ranges.{InTurn, IsOid, IsRowAbove}
 use Rattle.adr_wire.specs.Reading.{Rest, Read}
 use Rattle.adr_wire.specs.Spelling.{AreBytes, Was}
 use Rattle.adr_wire.proofs.Combining.{from}
 use Rattle.adr_law_lengths.specs.Written.{update_of}
-use Rattle.adr_law_lengths.proofs.Lengths.{object_long, link_long, oid_long, vector_long}
+use Rattle.adr_law_lengths.proofs.Lengths.{object_long, link_long, oid_long, timed_long, vector_long}
 use Rattle.adr_model.specs.Change.{Change, Written}
 use Rattle.adr_model.specs.Lengths.{change_length}
 use Rattle.adr_model.specs.Serve.{is_quarantined, item_length}
 use Rattle.adr_model.specs.Update.{Update}
-use Rattle.adr_image.specs.Body.{Body, Write, IsWrite, body, body_at, mark_if, one_name, write, IsBody, IsMarkIf}
+use Rattle.adr_image.specs.Body.{Body, Write, IsWrite, body, body_at, mark_if, number, one_name, write, IsBody, IsMarkIf}
 use Rattle.adr_image.specs.Image.{Marked}
 use Rattle.adr_image.specs.Changes.{item_of, written_of, mode_of_flag, change_of, whole_change, decoded_change, update_bytes, unit_bytes, written_bytes, change_bytes, AreShort, IsShortChange, HasBody}
 use Rattle.adr_image.specs.Written.{IsShortSaid}
@@ -47,40 +48,42 @@ flag_told : (b : Bool) → is_quarantined (mode_of_flag b) ≡ b
 flag_told true = refl
 flag_told false = refl
 
-pub bytes_are : (schema : ℕ) (b : Body) → change_bytes (change_of schema b) ≡ body b
-bytes_are schema b =
-    ap (λ (f : Bool). u64 b.0 ++ (flag f ++ (mark_if b.1.1.0 ++ (vector b.1.1.1.0 ++ (vector b.1.1.1.1.0
-    ++ ((u32 (length b.1.1.1.1.1.0) ++ flat_map oid b.1.1.1.1.1.0) ++ (u32 (length (map written_of b.1.1.1.1.1.1)) ++ flat_map written_bytes (map written_of b.1.1.1.1.1.1)))))))) (flag_told b.1.0)
-    ∙ ap (λ (n : ℕ). u64 b.0 ++ (flag b.1.0 ++ (mark_if b.1.1.0 ++ (vector b.1.1.1.0 ++ (vector b.1.1.1.1.0
-    ++ ((u32 (length b.1.1.1.1.1.0) ++ flat_map oid b.1.1.1.1.1.0) ++ (u32 n ++ flat_map written_bytes (map written_of b.1.1.1.1.1.1)))))))) (mapped_long written_of b.1.1.1.1.1.1)
-    ∙ ap (λ (bytes : List ℕ). u64 b.0 ++ (flag b.1.0 ++ (mark_if b.1.1.0 ++ (vector b.1.1.1.0 ++ (vector b.1.1.1.1.0
-    ++ ((u32 (length b.1.1.1.1.1.0) ++ flat_map oid b.1.1.1.1.1.0) ++ (u32 (length b.1.1.1.1.1.1) ++ bytes))))))) (writes_told b.1.1.1.1.1.1)
+pub bytes_are : (version : ℕ) (b : Body) → change_bytes version (change_of b) ≡ body version b
+bytes_are version b =
+    let behind : List ℕ → List ℕ = λ writes. number version b.1.1.0 ++ (mark_if b.1.1.1.0 ++ (timed version b.1.1.1.1.0 ++ (vector b.1.1.1.1.1.0
+    ++ ((u32 (length b.1.1.1.1.1.1.0) ++ flat_map oid b.1.1.1.1.1.1.0) ++ writes)))) in
+    ap (λ (f : Bool). u64 b.0 ++ (flag f ++ behind (u32 (length (map written_of b.1.1.1.1.1.1.1)) ++ flat_map written_bytes (map written_of b.1.1.1.1.1.1.1)))) (flag_told b.1.0)
+    ∙ ap (λ (n : ℕ). u64 b.0 ++ (flag b.1.0 ++ behind (u32 n ++ flat_map written_bytes (map written_of b.1.1.1.1.1.1.1)))) (mapped_long written_of b.1.1.1.1.1.1.1)
+    ∙ ap (λ (bytes : List ℕ). u64 b.0 ++ (flag b.1.0 ++ behind (u32 (length b.1.1.1.1.1.1.1) ++ bytes))) (writes_told b.1.1.1.1.1.1.1)
 
 -- ---- what is written is read again, and what is read was written so
 
-body_again : (before schema : ℕ) (b : Body) → IsBody before b → decoded_change before schema (change_bytes (change_of schema b)) ≡ Some (change_of schema b)
-body_again before schema b q =
-    ap (whole_change schema) (ap (λ (bytes : List ℕ). body_at before (from 0 bytes)) (bytes_are schema b ∙ sym (append-nil (body b))) ∙ (body_spelled before).again 0 b [] q)
+module _ (version before schema : ℕ) where
+  body_again : (b : Body) → IsBody version before schema b → decoded_change version before schema (change_bytes version (change_of b)) ≡ Some (change_of b)
+  body_again b q =
+      ap whole_change
+      (ap (λ (bytes : List ℕ). body_at version before schema (from 0 bytes)) (bytes_are version b ∙ sym (append-nil (body version b))) ∙ (body_spelled version before schema).again 0 b [] q)
 
-pub change_again : (before schema : ℕ) (c : Change) → HasBody before schema c → decoded_change before schema (change_bytes c) ≡ Some c
-change_again before schema c q = subst (λ (d : Change). decoded_change before schema (change_bytes d) ≡ Some d) (sym q.says) (body_again before schema q.body q.in_range)
+  pub change_again : (c : Change) → HasBody version before schema c → decoded_change version before schema (change_bytes version c) ≡ Some c
+  change_again c q = subst (λ (d : Change). decoded_change version before schema (change_bytes version d) ≡ Some d) (sym q.says) (body_again q.body q.in_range)
 
-pub change_only : (before schema : ℕ) (bytes : List ℕ) (c : Change) → AreBytes bytes → decoded_change before schema bytes ≡ Some c → HasBody before schema c × (bytes ≡ change_bytes c)
-change_only before schema bytes c fits e = by (body_at before (from 0 bytes)) refl e
-  where
-    whole : (b : Body) (rest : Rest) (t : Bool) → eqb (length rest.bytes) 0 ≡ t → body_at before (from 0 bytes) ≡ Ok (b, rest) → cond t (Some (change_of schema b)) None ≡ Some c → HasBody before schema c × (bytes ≡ change_bytes c)
-    whole b rest true end r h =
-        let was : Was (IsBody before) body 0 bytes b rest = (body_spelled before).only 0 bytes b rest fits r in
-        let none = nil_from_length rest.bytes (eqb-true (length rest.bytes) 0 end) in
-        let says : change_of schema b ≡ c = cc in (
-          record { body = b; in_range = was.in_range; says = sym says },
-          was.spelled_so ∙ ap (λ (w : List ℕ). body b ++ w) none ∙ append-nil (body b) ∙ sym (bytes_are schema b) ∙ ap change_bytes says,
-        )
-    whole b rest false end r h = absurd (cc)
+  pub change_only : (bytes : List ℕ) (c : Change) → AreBytes bytes → decoded_change version before schema bytes ≡ Some c → HasBody version before schema c × (bytes ≡ change_bytes version c)
+  change_only bytes c fits e = by (body_at version before schema (from 0 bytes)) refl e
+    where
+      whole : (b : Body) (rest : Rest) (t : Bool) → eqb (length rest.bytes) 0 ≡ t → body_at version before schema (from 0 bytes) ≡ Ok (b, rest) → cond t (Some (change_of b)) None ≡ Some c
+          → HasBody version before schema c × (bytes ≡ change_bytes version c)
+      whole b rest true end r h =
+          let was : Was (IsBody version before schema) (body version) 0 bytes b rest = (body_spelled version before schema).only 0 bytes b rest fits r in
+          let none = nil_from_length rest.bytes (eqb-true (length rest.bytes) 0 end) in
+          let says : change_of b ≡ c = cc in (
+            record { body = b; in_range = was.in_range; says = sym says },
+            was.spelled_so ∙ ap (λ (w : List ℕ). body version b ++ w) none ∙ append-nil (body version b) ∙ sym (bytes_are version b) ∙ ap (change_bytes version) says,
+          )
+      whole b rest false end r h = absurd (cc)
 
-    by : (r : Read Body) → body_at before (from 0 bytes) ≡ r → whole_change schema r ≡ Some c → HasBody before schema c × (bytes ≡ change_bytes c)
-    by (Ok x) r h = whole x.0 x.1 (eqb (length x.1.bytes) 0) refl r h
-    by (Err place) r h = absurd (cc)
+      by : (r : Read Body) → body_at version before schema (from 0 bytes) ≡ r → whole_change r ≡ Some c → HasBody version before schema c × (bytes ≡ change_bytes version c)
+      by (Ok x) r h = whole x.0 x.1 (eqb (length x.1.bytes) 0) refl r h
+      by (Err place) r h = absurd (cc)
 
 -- ---- bodies in range are short enough for their counts
 
@@ -105,11 +108,11 @@ writes_short last [] turn k d lt = absurd (omega arith)
 writes_short last (w ∷ ws) turn zero d lt = piece_short w.1 turn.0.1
 writes_short last (w ∷ ws) turn (suc k) d lt = writes_short (Some w.0) ws turn.1 k d (omega arith)
 
-body_short : (before schema : ℕ) (b : Body) → IsBody before b → IsShortChange (change_of schema b)
-body_short before schema b q =
-    let long = mapped_long written_of b.1.1.1.1.1.1 in
-    let few = q.1.1.1.1.1.1.0 in
-    record { removed = q.1.1.1.1.1.0.0; few = omega (arith, long, few); short = writes_short (Some before) b.1.1.1.1.1.1 q.1.1.1.1.1.1.1 }
+body_short : (version before schema : ℕ) (b : Body) → IsBody version before schema b → IsShortChange (change_of b)
+body_short version before schema b q =
+    let long = mapped_long written_of b.1.1.1.1.1.1.1 in
+    let few = q.1.1.1.1.1.1.1.0 in
+    record { removed = q.1.1.1.1.1.1.0.0; few = omega (arith, long, few); short = writes_short (Some before) b.1.1.1.1.1.1.1 q.1.1.1.1.1.1.1.1 }
 
 -- ---- lengths
 
@@ -136,19 +139,19 @@ mark_long : (m : Option Marked) → IsMarkIf m → length (mark_if m) ≡ 1 + co
 mark_long None q = refl
 mark_long (Some k) q = let long = kept_long None k q in omega (arith, long)
 
-body_long : (before schema : ℕ) (b : Body) → IsBody before b → length (body b) ≡ change_length (change_of schema b)
+body_long : (before schema : ℕ) (b : Body) → IsBody 2 before schema b → length (body 2 b) ≡ change_length (change_of b)
 unfolding u32 u64
 body_long before schema b q =
-    let mark = mark_long b.1.1.0 q.1.1.0 in
-    let joined = vector_long b.1.1.1.0 q.1.1.1.0 in
-    let purged = vector_long b.1.1.1.1.0 q.1.1.1.1.0 in
-    let removed = removed_long None b.1.1.1.1.1.0 q.1.1.1.1.1.0.1 in
-    let writes = writes_long 0 (Some before) b.1.1.1.1.1.1 q.1.1.1.1.1.1.1 in
+    let mark = mark_long b.1.1.1.0 q.1.1.1.0 in
+    let joined = timed_long b.1.1.1.1.0 q.1.1.1.1.0 in
+    let purged = vector_long b.1.1.1.1.1.0 q.1.1.1.1.1.0 in
+    let removed = removed_long None b.1.1.1.1.1.1.0 q.1.1.1.1.1.1.0.1 in
+    let writes = writes_long 0 (Some before) b.1.1.1.1.1.1.1 q.1.1.1.1.1.1.1.1 in
     simp length-append (omega (arith, mark, joined, purged, removed, writes))
 
-pub change_short : (before schema : ℕ) (c : Change) → HasBody before schema c → IsShortChange c
-change_short before schema c q = subst IsShortChange (sym q.says) (body_short before schema q.body q.in_range)
+pub change_short : (version before schema : ℕ) (c : Change) → HasBody version before schema c → IsShortChange c
+change_short version before schema c q = subst IsShortChange (sym q.says) (body_short version before schema q.body q.in_range)
 
-pub change_long : (before schema : ℕ) (c : Change) → HasBody before schema c → length (change_bytes c) ≡ change_length c
+pub change_long : (before schema : ℕ) (c : Change) → HasBody 2 before schema c → length (change_bytes 2 c) ≡ change_length c
 change_long before schema c q =
-    subst (λ (d : Change). length (change_bytes d) ≡ change_length d) (sym q.says) (ap (λ (bytes : List ℕ). length bytes) (bytes_are schema q.body) ∙ body_long before schema q.body q.in_range)
+    subst (λ (d : Change). length (change_bytes 2 d) ≡ change_length d) (sym q.says) (ap (λ (bytes : List ℕ). length bytes) (bytes_are 2 q.body) ∙ body_long before schema q.body q.in_range)

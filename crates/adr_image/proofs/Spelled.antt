@@ -61,8 +61,8 @@ module _ (p : Parts) (q : AreParts p) where
       record {
         schema = q.schema;
         usn = q.usn;
-        vector = q.vector.1;
-        times = refl;
+        vector = q.seen.cursors.1;
+        times = q.seen.moments;
         purged = q.purged.0.1;
         marks = marks_in_range None p.marks q.marks.1;
         partners = (chain identifier_order nat_list_cmp_total (λ (k : Marked). k.0) None p.marks (marks_in_turn None p.marks q.marks.1)).0;

@@ -1,5 +1,5 @@
 -- A spelled store stays spelled by what a body in range says.
-use Rattle.std.proofs.Common.{◌≡◌, ℕ, ◌<◌, ◌^◌, Bool, true, false, cond, List, [], ◌∷◌, map, fold, Option, Some, None, refl, sym, ap, subst, ◌∙◌, inl, inr, ⊎_elim, arith}
+use Rattle.std.proofs.Common.{◌≡◌, ℕ, ◌<◌, ◌^◌, Bool, true, false, cond, eqb, List, [], ◌∷◌, map, fold, Option, Some, None, refl, sym, ap, subst, ◌∙◌, inl, inr, ⊎_elim, arith}
 use Rattle.std.specs.Prelude.{◌⊎◌}
 use Rattle.std.specs.BTreeMap.{insert_entry}
 use Rattle.std.specs.List.{AllByRecursion}
@@ -16,7 +16,7 @@ use Rattle.adr_values.specs.Numbered.{numbered}
 use Rattle.adr_values.specs.Vector.{Cursors, at, covers, raised, joined}
 use Rattle.adr_wire.specs.Composites.{Row}
 use Rattle.adr_wire.specs.Pieces.{Piece, OfRows, OfLink, IsPiece}
-use Rattle.adr_wire.specs.Ranges.{InTurn, IsCursor, IsId, IsMark, IsOid, IsRowAbove, IsUsn}
+use Rattle.adr_wire.specs.Ranges.{InTurn, IsCursor, IsId, IsMark, IsOid, IsRowAbove, IsU64, IsUsn}
 use Rattle.adr_law_lengths.specs.Written.{update_of}
 use Rattle.adr_model.specs.Change.{Change, Written, after, held_of, put, rows_after, with_mark, without_object}
 use Rattle.adr_model.specs.Member.{Member, Each}
@@ -25,10 +25,11 @@ use Rattle.adr_model.specs.Store.{Held, PartnerMark, State, empty_store, updates
 use Rattle.adr_model.specs.Update.{Identifier, Update}
 use Rattle.adr_model.proofs.Members.{flat_member, mapped_member, member_mapped, of_filter}
 use Rattle.adr_law_calls.proofs.Rows.{put_from}
-use Rattle.adr_image.specs.Body.{IsMarkIf, IsWrite, Write}
+use Rattle.adr_image.specs.Body.{IsMarkIf, IsNumber, IsWrite, NumberBy, Write}
 use Rattle.adr_image.specs.Changes.{HasBody, item_of, written_of}
 use Rattle.adr_image.specs.Image.{Marked}
 use Rattle.adr_image.specs.Stored.{IsSpelled, IsSpelledRow}
+use Rattle.adr_image.specs.Whole.{is_schema}
 use Rattle.adr_image.proofs.Alone.{in_all}
 use Rattle.adr_image.proofs.Storing.{all_above}
 
@@ -42,6 +43,15 @@ module _ {K X : Type 0} (R : K → K → Ordering) where
       by : (o : Ordering) → AllByRecursion (λ (f : K × X). A f.0 × B f.1) (insert_entry R es k v) → AllByRecursion (λ (f : K × X). A f.0 × B f.1) (match_ordering o ((k, v) ∷ e ∷ es) ((e.0, v) ∷ es) (e ∷ insert_entry R es k v))
       by Less rest = ((a, b), all)
       by Equal rest = ((all.0.0, b), all.1)
+      by Greater rest = (all.0, rest)
+
+  inserted_second : (B : X → Type 0) (es : List (K × X)) (k : K) (v : X) → AllByRecursion (λ (e : K × X). B e.1) es → B v → AllByRecursion (λ (e : K × X). B e.1) (insert_entry R es k v)
+  inserted_second B [] k v all b = (b, tt)
+  inserted_second B (e ∷ es) k v all b = by (R k e.0) (inserted_second B es k v all.1 b)
+    where
+      by : (o : Ordering) → AllByRecursion (λ (f : K × X). B f.1) (insert_entry R es k v) → AllByRecursion (λ (f : K × X). B f.1) (match_ordering o ((k, v) ∷ e ∷ es) ((e.0, v) ∷ es) (e ∷ insert_entry R es k v))
+      by Less rest = (b, all)
+      by Equal rest = (b, all.1)
       by Greater rest = (all.0, rest)
 
   abbrev keys : List (K × X) → List K
@@ -78,6 +88,19 @@ raised_spelled v inv usn all id fits = by (covers v inv usn) refl
 joined_spelled : (v w : Cursors) → AllByRecursion IsCursor v → AllByRecursion IsCursor w → AllByRecursion IsCursor (joined v w)
 joined_spelled v [] all more = all
 joined_spelled v (c ∷ cs) all more = joined_spelled (raised v c.0 c.1) cs (raised_spelled v c.0 c.1 all more.0.0 more.0.1.1) more.1
+
+-- ---- moments
+
+pub raised_moments : (v : Cursors) (inv : Identifier) (now : ℕ) → AllByRecursion (λ t. IsU64 t.1) v → IsU64 now → AllByRecursion (λ t. IsU64 t.1) (raised v inv now)
+raised_moments v inv now all fits = by (covers v inv now)
+  where
+    by : (b : Bool) → AllByRecursion (λ t. IsU64 t.1) (cond b v (insert_entry identifier_order v inv now))
+    by true = all
+    by false = inserted_second identifier_order IsU64 v inv now all fits
+
+joined_moments : (v w : Cursors) → AllByRecursion (λ t. IsU64 t.1) v → AllByRecursion (λ t. IsU64 t.1) w → AllByRecursion (λ t. IsU64 t.1) (joined v w)
+joined_moments v [] all more = all
+joined_moments v (c ∷ cs) all more = joined_moments (raised v c.0 c.1) cs (raised_moments v c.0 c.1 all more.0) more.1
 
 -- ---- marks
 
@@ -136,21 +159,31 @@ held_right ws each h m =
     let u = mapped_member _ w.0.item.rows h w.2 in
     subst IsRightRow (sym u.2) (each w.0 w.1 u.0 u.1)
 
+-- ---- the schema
+
+number_right : (version schema n : ℕ) → is_schema schema ≡ true → IsNumber version schema n → is_schema n ≡ true
+number_right version schema n is q = by (eqb version 1) q
+  where
+    by : (b : Bool) → NumberBy b schema n → is_schema n ≡ true
+    by true e = subst (λ (m : ℕ). is_schema m ≡ true) (sym e) is
+    by false h = h.1
+
 -- ---- the whole
 
-pub stays_spelled : (s : State) (c : Change) → IsId s.inv → IsSpelled s.store → HasBody s.store.usn s.store.schema c → AreClassesKnown (numbered c.schema) (updates_of (after s c).store.rows) → IsSpelled (after s c).store
-stays_spelled s c id q has known = subst (λ (d : Change). IsSpelled (after s d).store) (sym has.says) (let b = has.in_range in record {
-  schema = q.schema;
+pub stays_spelled : (version : ℕ) (s : State) (c : Change) → IsId s.inv → IsSpelled s.store → HasBody version s.store.usn s.store.schema c → AreClassesKnown (numbered c.schema) (updates_of (after s c).store.rows)
+    → IsSpelled (after s c).store
+stays_spelled version s c id q has known = subst (λ (d : Change). IsSpelled (after s d).store) (sym has.says) (let b = has.in_range in let d = has.body in record {
+  schema = number_right version s.store.schema d.1.1.0 q.schema b.1.1.0;
   usn = b.0;
-  vector = raised_spelled (joined s.store.vector has.body.1.1.1.0) s.inv has.body.0 (joined_spelled s.store.vector has.body.1.1.1.0 q.vector b.1.1.1.0.1) id b.0;
-  times = q.times;
-  purged = joined_spelled s.store.purged has.body.1.1.1.1.0 q.purged b.1.1.1.1.0.1;
-  marks = mark_spelled has.body.1.1.0 s.store.marks b.1.1.0 q.marks;
-  partners = partners_rise has.body.1.1.0 s.store.marks q.partners;
-  rows = λ h m. ⊎_elim (λ w. held_right _ (writes_right (Some s.store.usn) has.body.1.1.1.1.1.1 b.1.1.1.1.1.1.1) h w) (λ r. q.rows h r)
-      (from_writes (held_of (map written_of has.body.1.1.1.1.1.1)) s.store.rows h (from_removals has.body.1.1.1.1.1.0 (fold put s.store.rows (held_of (map written_of has.body.1.1.1.1.1.1))) h m));
-  classes = λ h m. subst (λ (d : Change). AreClassesKnown (numbered d.schema) (updates_of (after s d).store.rows)) has.says known h.update
-      (member_mapped (λ (x : Held). x.update) (rows_after has.body.1.1.1.1.1.0 (held_of (map written_of has.body.1.1.1.1.1.1)) s.store.rows) h m);
+  vector = raised_spelled (joined s.store.vector d.1.1.1.1.0.0) s.inv d.0 (joined_spelled s.store.vector d.1.1.1.1.0.0 q.vector b.1.1.1.1.0.is.cursors.1) id b.0;
+  times = joined_moments s.store.times d.1.1.1.1.0.1 q.times b.1.1.1.1.0.is.moments;
+  purged = joined_spelled s.store.purged d.1.1.1.1.1.0 q.purged b.1.1.1.1.1.0.1;
+  marks = mark_spelled d.1.1.1.0 s.store.marks b.1.1.1.0 q.marks;
+  partners = partners_rise d.1.1.1.0 s.store.marks q.partners;
+  rows = λ h m. ⊎_elim (λ w. held_right _ (writes_right (Some s.store.usn) d.1.1.1.1.1.1.1 b.1.1.1.1.1.1.1.1) h w) (λ r. q.rows h r)
+      (from_writes (held_of (map written_of d.1.1.1.1.1.1.1)) s.store.rows h (from_removals d.1.1.1.1.1.1.0 (fold put s.store.rows (held_of (map written_of d.1.1.1.1.1.1.1))) h m));
+  classes = λ h m. subst (λ (e : Change). AreClassesKnown (numbered e.schema) (updates_of (after s e).store.rows)) has.says known h.update
+      (member_mapped (λ (x : Held). x.update) (rows_after d.1.1.1.1.1.1.0 (held_of (map written_of d.1.1.1.1.1.1.1)) s.store.rows) h m);
 })
 
 pub begins_spelled : IsSpelled (empty_store 1)
@@ -159,7 +192,7 @@ begins_spelled = record {
   schema = refl;
   usn = omega arith;
   vector = tt;
-  times = refl;
+  times = tt;
   purged = tt;
   marks = λ k m. absurd m;
   partners = tt;

@@ -103,5 +103,5 @@ module _ (usn : ℕ) (table : Table) where
 -- what was put into a store comes out of it
 pub parts_again_in : (p : Parts) → AreParts p → parts_in (store_of p) ≡ p
 parts_again_in p q =
-    ap (λ (a : List Rows × List HeldLink). let x : Parts = record { schema = p.schema; usn = p.usn; vector = p.vector; purged = p.purged; marks = p.marks; objects = a.0; links = a.1 } in x)
+    ap (λ (a : List Rows × List HeldLink). let x : Parts = record { schema = p.schema; usn = p.usn; vector = p.vector; times = p.times; purged = p.purged; marks = p.marks; objects = a.0; links = a.1 } in x)
     (apart_again p.links p.objects (tidy p.usn (numbered p.schema) no_objects p.objects q.objects.1))

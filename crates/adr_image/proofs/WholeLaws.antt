@@ -1,7 +1,7 @@
 -- A whole image is spelled in one way.
-use Rattle.std.proofs.Common.{◌≡◌, ℕ, ◌≤◌, Bool, true, leb, List, ◌++◌, Ok, refl, arith}
-use Rattle.std.specs.Prelude.{◌==◌}
-use Rattle.std.proofs.lemmas.Bool.{eqb-true, eq-eqb}
+use Rattle.std.proofs.Common.{◌≡◌, ℕ, ◌≤◌, Bool, true, false, cond, eqb, leb, List, ◌++◌, Ok, refl, subst, sym, arith}
+use Rattle.std.specs.Prelude.{◌||◌}
+use Rattle.std.proofs.lemmas.Bool.{eqb-true}
 use Rattle.adr_values.specs.Table.{Table}
 use Rattle.adr_values.specs.Numbered.{numbered}
 use Rattle.adr_values.specs.Vector.{Cursors, at_most}
@@ -12,12 +12,15 @@ use Rattle.adr_wire.specs.Spelling.{AreBytes, IsSpelling}
 use Rattle.adr_wire.specs.Ranges.{IsU32, IsUsn0, IsCursors}
 use Rattle.adr_wire.proofs.Combining.{made, passed, both, pair, counted, counted_too}
 use Rattle.adr_wire.proofs.FieldLaws.{u32_spelled, usn0_spelled}
-use Rattle.adr_wire.proofs.HeadedLaws.{first_again, first_only}
+use Rattle.adr_wire.specs.Headed.{is_version}
+use Rattle.adr_wire.specs.Timed.{Timed, IsTimed, timed, timed_at}
+use Rattle.adr_wire.proofs.HeadedLaws.{again_of_two, only_of_two}
+use Rattle.adr_wire.proofs.TimedLaws.{timed_spelled}
 use Rattle.adr_wire.proofs.VectorLaws.{vector_spelled}
 use Rattle.adr_model.specs.Take.{mark_limit}
 use Rattle.adr_model.specs.Write.{object_limit, link_limit, usn_limit}
 use Rattle.adr_image.specs.Image.{Rows, HeldLink, Marked, kept, kept_above, marks_of, object_at, object, no_objects, with_rows, link_at, held_link, with_link}
-use Rattle.adr_image.specs.Whole.{Parts, image_schema, count_at, marks_at, objects_at, links_at, dead_of, no_links, Tuple, tuple_at, parts_of, parts_at, magic, read_parts, marks, objects, links, body, image_of}
+use Rattle.adr_image.specs.Whole.{Parts, IsOf, is_schema, is_schema_of, count_at, marks_at, objects_at, links_at, dead_of, no_links, Tuple, tuple_at, parts_of, parts_at, magic, read_parts, marks, objects, links, body, image_of}
 use Rattle.adr_image.specs.Ranged.{IsCount, IsMarked, AreMarks, IsObjectIn, AreObjects, IsLinkIn, AreLinks, AreParts}
 use Rattle.adr_image.proofs.ImageLaws.{kept_spelled, object_in_spelled, link_in_spelled}
 
@@ -88,69 +91,108 @@ four_spelled usn table seen fits =
     pair (λ p. IsCursors p × (at_most p seen ≡ true)) vector (where_at (λ p. at_most p seen) vector_at) (passed IsCursors vector vector_at vector_spelled (λ p. at_most p seen))
     (AreThree usn table) three (three_at usn table) (three_spelled usn table fits)
 
-abbrev pub Five : Type 0
-Five = Cursors × Four
+-- ---- and by the version
 
-abbrev AreFive : ℕ → Table → Five → Type 0
-AreFive usn table t = IsCursors t.0 × AreFour usn table t.0 t.1
+module _ (version : ℕ) where
+  abbrev pub Five : Type 0
+  Five = Timed × Four
 
-abbrev five : Five → List ℕ
-five t = vector t.0 ++ four t.1
+  abbrev AreFive : ℕ → Table → Five → Type 0
+  AreFive usn table t = IsTimed version t.0 × AreFour usn table t.0.0 t.1
 
-abbrev pub five_at : ℕ → Table → Reading Five
-five_at usn table = then_at vector_at (four_at usn table)
+  abbrev five : Five → List ℕ
+  five t = timed version t.0 ++ four t.1
 
-five_spelled : (usn : ℕ) (table : Table) → usn ≤ usn_limit → IsSpelling (AreFive usn table) five (five_at usn table)
-five_spelled usn table fits = both IsCursors vector vector_at vector_spelled (AreFour usn table) (λ _. four) (four_at usn table) (λ seen h. four_spelled usn table seen fits)
+  abbrev pub five_at : ℕ → Table → Reading Five
+  five_at usn table = then_at (timed_at version) (λ seen. four_at usn table seen.0)
 
-abbrev pub Six : Type 0
-Six = ℕ × Five
+  five_spelled : (usn : ℕ) (table : Table) → usn ≤ usn_limit → IsSpelling (AreFive usn table) five (five_at usn table)
+  five_spelled usn table fits =
+      both (IsTimed version) (timed version) (timed_at version) (timed_spelled version) (λ seen. AreFour usn table seen.0) (λ _. four) (λ seen. four_at usn table seen.0) (λ seen h. four_spelled usn table seen.0 fits)
 
-abbrev AreSix : ℕ → Six → Type 0
-AreSix schema t = IsUsn0 t.0 × AreFive t.0 (numbered schema) t.1
+  abbrev pub Six : Type 0
+  Six = ℕ × Five
 
-abbrev six : Six → List ℕ
-six t = u64 t.0 ++ five t.1
+  abbrev AreSix : ℕ → Six → Type 0
+  AreSix schema t = IsUsn0 t.0 × AreFive t.0 (numbered schema) t.1
 
-abbrev pub six_at : ℕ → Reading Six
-six_at schema = then_at usn0_at (λ usn. five_at usn (numbered schema))
+  abbrev six : Six → List ℕ
+  six t = u64 t.0 ++ five t.1
 
-six_spelled : (schema : ℕ) → IsSpelling (AreSix schema) six (six_at schema)
-six_spelled schema = both IsUsn0 u64 usn0_at usn0_spelled (λ usn. AreFive usn (numbered schema)) (λ _. five) (λ usn. five_at usn (numbered schema)) (λ usn h. five_spelled usn (numbered schema) (omega (arith, h)))
+  abbrev pub six_at : ℕ → Reading Six
+  six_at schema = then_at usn0_at (λ usn. five_at usn (numbered schema))
 
--- the number of an image's schema
-abbrev pub is_images : ℕ → Bool
-is_images n = n == image_schema
+  six_spelled : (schema : ℕ) → IsSpelling (AreSix schema) six (six_at schema)
+  six_spelled schema = both IsUsn0 u64 usn0_at usn0_spelled (λ usn. AreFive usn (numbered schema)) (λ _. five) (λ usn. five_at usn (numbered schema)) (λ usn h. five_spelled usn (numbered schema) (omega (arith, h)))
 
-abbrev AreTuple : Tuple → Type 0
-AreTuple t = (IsU32 t.0 × (is_images t.0 ≡ true)) × AreSix t.0 t.1
+  abbrev AreTuple : Tuple → Type 0
+  AreTuple t = (IsU32 t.0 × (is_schema_of version t.0 ≡ true)) × AreSix t.0 t.1
 
-abbrev tuple : Tuple → List ℕ
-tuple t = u32 t.0 ++ six t.1
+  abbrev tuple : Tuple → List ℕ
+  tuple t = u32 t.0 ++ six t.1
 
-tuple_spelled : IsSpelling AreTuple tuple tuple_at
-unfolding tuple_at
-tuple_spelled = both (λ n. IsU32 n × (is_images n ≡ true)) u32 (where_at is_images u32_at) (passed IsU32 u32 u32_at u32_spelled is_images) AreSix (λ _. six) six_at (λ schema h. six_spelled schema)
+  tuple_spelled : IsSpelling AreTuple tuple (tuple_at version)
+  unfolding tuple_at
+  tuple_spelled =
+      both (λ n. IsU32 n × (is_schema_of version n ≡ true)) u32 (where_at (is_schema_of version) u32_at) (passed IsU32 u32 u32_at u32_spelled (is_schema_of version)) AreSix (λ _. six) six_at (λ schema h. six_spelled schema)
 
 abbrev tuple_of : Parts → Tuple
-tuple_of p = (p.schema, (p.usn, (p.vector, (p.purged, (p.marks, (p.objects, p.links))))))
+tuple_of p = (p.schema, (p.usn, ((p.vector, p.times), (p.purged, (p.marks, (p.objects, p.links))))))
 
-images_number : (n : ℕ) → n ≡ image_schema → IsU32 n × (is_images n ≡ true)
-images_number n e = (omega (arith, e), eq-eqb n image_schema e)
+-- ---- the numbers of schemas
 
-pub parts_spelled : IsSpelling AreParts body parts_at
+pub one_or_two : (n : ℕ) → is_schema n ≡ true → n ≤ 2
+one_or_two n e = by (eqb n 1) refl (eqb n 2) refl e
+  where
+    by : (a : Bool) → eqb n 1 ≡ a → (b : Bool) → eqb n 2 ≡ b → (a || b) ≡ true → n ≤ 2
+    by true one b two h = let is = eqb-true n 1 one in omega (arith, is)
+    by false one true two h = let is = eqb-true n 2 two in omega (arith, is)
+    by false one false two h = absurd (cc)
+
+pub number_small : (n : ℕ) → is_schema n ≡ true → IsU32 n
+number_small n e = let small = one_or_two n e in omega (arith, small)
+
+-- one that is told by a version is told by the second, and the first tells one alone
+number_told : (version n : ℕ) → is_schema_of version n ≡ true → (is_schema n ≡ true) × ((eqb version 1 ≡ true) → n ≡ 1)
+number_told version n e = by (eqb version 1) refl e
+  where
+    by : (b : Bool) → eqb version 1 ≡ b → cond b (eqb n 1) (is_schema n) ≡ true → (is_schema n ≡ true) × ((eqb version 1 ≡ true) → n ≡ 1)
+    by true v h = let one = eqb-true n 1 h in (subst (λ (m : ℕ). is_schema m ≡ true) (sym one) refl, (λ _. one))
+    by false v h = (h, (λ one. absurd (cc)))
+
+number_tells : (version n : ℕ) → is_schema n ≡ true → ((eqb version 1 ≡ true) → n ≡ 1) → is_schema_of version n ≡ true
+number_tells version n is of = by (eqb version 1) refl
+  where
+    by : (b : Bool) → eqb version 1 ≡ b → cond b (eqb n 1) (is_schema n) ≡ true
+    by true v = subst (λ (m : ℕ). eqb m 1 ≡ true) (sym (of v)) refl
+    by false v = is
+
+-- ---- the parts, in a version that can tell them
+
+abbrev pub ArePartsOf : ℕ → Parts → Type 0
+ArePartsOf version p = AreParts p × IsOf version p
+
+pub parts_spelled : (version : ℕ) → IsSpelling (ArePartsOf version) (body version) (parts_at version)
 unfolding parts_at
-parts_spelled =
-    made AreTuple tuple tuple_at tuple_spelled parts_of AreParts body
-    (λ p q. (tuple_of p, refl, (images_number p.schema q.schema, (q.usn, (q.vector, (q.purged, (q.marks, (q.objects, q.links)))))), refl))
-    (λ t q fits. (record { schema = eqb-true t.0 image_schema q.0.1; usn = q.1.0; vector = q.1.1.0; purged = q.1.1.1.0; marks = q.1.1.1.1.0; objects = q.1.1.1.1.1.0; links = q.1.1.1.1.1.1 }, refl))
+parts_spelled version =
+    made (AreTuple version) (tuple version) (tuple_at version) (tuple_spelled version) parts_of (ArePartsOf version) (body version)
+    (λ p q. (tuple_of p, refl, ((number_small p.schema q.0.schema, number_tells version p.schema q.0.schema (λ one. (q.1 one).0)), (q.0.usn, (record { is = q.0.seen; none = λ one. (q.1 one).1 }, (q.0.purged, (q.0.marks, (q.0.objects, q.0.links)))))), refl))
+    (λ t q fits.
+    let number = number_told version t.0 q.0.1 in
+    let seen = q.1.1.0 in (
+      (
+        record { schema = number.0; usn = q.1.0; seen = seen.is; purged = q.1.1.1.0; marks = q.1.1.1.1.0; objects = q.1.1.1.1.1.0; links = q.1.1.1.1.1.1 },
+        (λ one. (number.1 one, seen.none one)),
+      ),
+      refl,
+    ))
 
 -- ---- behind magic and version, to the end
 
 -- what is written is read again
-pub parts_again : (p : Parts) → AreParts p → read_parts (image_of p) ≡ Ok p
-parts_again p q = first_again magic refl AreParts body parts_at parts_spelled p q
+pub parts_again : (version : ℕ) (p : Parts) → is_version version ≡ true → AreParts p → IsOf version p → read_parts (image_of version p) ≡ Ok p
+parts_again version p known q of = again_of_two magic refl ArePartsOf body parts_at parts_spelled version known p (q, of)
 
 -- what is read was written so
-pub parts_only : (bytes : List ℕ) (p : Parts) → AreBytes bytes → read_parts bytes ≡ Ok p → AreParts p × (bytes ≡ image_of p)
-parts_only bytes p fits e = first_only magic refl AreParts body parts_at parts_spelled bytes p fits e
+pub parts_only : (bytes : List ℕ) (p : Parts) → AreBytes bytes → read_parts bytes ≡ Ok p → (version : ℕ) × (is_version version ≡ true) × (AreParts p × IsOf version p) × (bytes ≡ image_of version p)
+parts_only bytes p fits e = only_of_two magic refl ArePartsOf body parts_at parts_spelled bytes p fits e

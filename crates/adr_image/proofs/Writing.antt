@@ -18,6 +18,7 @@ use Rattle.adr_values.specs.declared.content.Content.TheVariants.{Class, Name, D
 use Rattle.adr_wire.specs.Composites.{oid, vector, IsShortValue, IsShortContent}
 use Rattle.adr_wire.specs.Fields.{flag, u16, u32, u64}
 use Rattle.adr_wire.specs.Headed.{head}
+use Rattle.adr_wire.specs.Timed.{timed}
 use Rattle.adr_wire.specs.Ranges.{IsContent, IsValue}
 use Rattle.adr_values.specs.declared.content.Value.{Value as Item}
 use Rattle.adr_values.specs.declared.content.Value.TheVariants.{Text, Number, Flag, Octets, Ref}
@@ -35,7 +36,7 @@ use Rattle.adr_image.specs.Body.{mark_if}
 use Rattle.adr_image.specs.Changes.{change_bytes, written_bytes}
 use Rattle.adr_image.specs.Image.{HeldRow, Rows, HeldLink, held_row, object, held_link}
 use Rattle.adr_image.specs.Whole.{magic, marks, objects, links}
-use Rattle.adr_image.specs.Stored.{AreTidy, IsNotFirst, held_of, link_of, rows_of_object, rows_of, apart, image, IsSpelled, IsSpelledRow}
+use Rattle.adr_image.specs.Stored.{AreTidy, IsNotFirst, held_of, link_of, rows_of_object, rows_of, apart, image, image_version, IsSpelled, IsSpelledRow}
 use Rattle.adr_image.specs.Written.{held, IsShortSaid, own_rows, object_of, first_object, next_object, HaveFewRows, IsWritable}
 use Rattle.adr_image.proofs.Names.{object_itself}
 use Rattle.adr_image.proofs.Formed.{keys}
@@ -323,25 +324,29 @@ next_written w0 w1 w2 w3 o n xs own a b c =
     then_written w0 w1 w3 (oid o) (u16 n ++ rows) a (then_written w1 w2 w3 (u16 n) rows b (c ∙ ap (λ (hs : List Held). w2 ++ flat_map held hs) (referents_take n xs)))
     ∙ ap (λ (m : ℕ). w0 ++ (oid o ++ (u16 m ++ flat_map held (take m (referents xs))))) own
 
-pub image_written : (s : Store) (w0 w2 w3 w4 w5 w6 w7 w8 : List ℕ) → w2 ≡ w0 ++ head magic 1 → w3 ≡ w2 ++ u32 s.schema → w4 ≡ w3 ++ u64 s.usn → w5 ≡ w4 ++ vector s.vector → w6 ≡ w5 ++ vector s.purged
-    → w7 ≡ w6 ++ marks s.marks → w8 ≡ w7 ++ (objects (apart s.rows).0 ++ links (apart s.rows).1) → w8 ≡ w0 ++ image s
+pub image_written : (s : Store) (w0 w2 w3 w4 w5 w6 w7 w8 : List ℕ) → w2 ≡ w0 ++ head magic image_version → w3 ≡ w2 ++ u32 s.schema → w4 ≡ w3 ++ u64 s.usn → w5 ≡ w4 ++ timed image_version (s.vector, s.times)
+    → w6 ≡ w5 ++ vector s.purged → w7 ≡ w6 ++ marks s.marks → w8 ≡ w7 ++ (objects (apart s.rows).0 ++ links (apart s.rows).1) → w8 ≡ w0 ++ image s
 image_written s w0 w2 w3 w4 w5 w6 w7 w8 p2 p3 p4 p5 p6 p7 p8 =
     let rows = objects (apart s.rows).0 ++ links (apart s.rows).1 in
+    let seen = timed image_version (s.vector, s.times) in
     let q7 = then_written w6 w7 w8 (marks s.marks) rows p7 p8 in
     let q6 = then_written w5 w6 w8 (vector s.purged) (marks s.marks ++ rows) p6 q7 in
-    let q5 = then_written w4 w5 w8 (vector s.vector) (vector s.purged ++ (marks s.marks ++ rows)) p5 q6 in
-    let q4 = then_written w3 w4 w8 (u64 s.usn) (vector s.vector ++ (vector s.purged ++ (marks s.marks ++ rows))) p4 q5 in
-    let q3 = then_written w2 w3 w8 (u32 s.schema) (u64 s.usn ++ (vector s.vector ++ (vector s.purged ++ (marks s.marks ++ rows)))) p3 q4 in
-    then_written w0 w2 w8 (head magic 1) (u32 s.schema ++ (u64 s.usn ++ (vector s.vector ++ (vector s.purged ++ (marks s.marks ++ rows))))) p2 q3
+    let q5 = then_written w4 w5 w8 seen (vector s.purged ++ (marks s.marks ++ rows)) p5 q6 in
+    let q4 = then_written w3 w4 w8 (u64 s.usn) (seen ++ (vector s.purged ++ (marks s.marks ++ rows))) p4 q5 in
+    let q3 = then_written w2 w3 w8 (u32 s.schema) (u64 s.usn ++ (seen ++ (vector s.purged ++ (marks s.marks ++ rows)))) p3 q4 in
+    then_written w0 w2 w8 (head magic image_version) (u32 s.schema ++ (u64 s.usn ++ (seen ++ (vector s.purged ++ (marks s.marks ++ rows))))) p2 q3
 
-pub change_written : (c : Change) (w0 w1 w2 w3 w4 w5 w6 w7 : List ℕ) → w1 ≡ w0 ++ u64 c.usn → w2 ≡ w1 ++ flag (is_quarantined c.mode) → w3 ≡ w2 ++ mark_if c.mark → w4 ≡ w3 ++ vector c.joined → w5 ≡ w4 ++ vector c.purged
-    → w6 ≡ w5 ++ (u32 (length c.removed) ++ flat_map oid c.removed) → w7 ≡ w6 ++ (u32 (length c.writes) ++ flat_map written_bytes c.writes) → w7 ≡ w0 ++ change_bytes c
-change_written c w0 w1 w2 w3 w4 w5 w6 w7 p1 p2 p3 p4 p5 p6 p7 =
+pub change_written : (c : Change) (w0 w1 w2 w3 w4 w5 w6 w7 w8 : List ℕ) → w1 ≡ w0 ++ u64 c.usn → w2 ≡ w1 ++ flag (is_quarantined c.mode) → w3 ≡ w2 ++ u32 c.schema → w4 ≡ w3 ++ mark_if c.mark
+    → w5 ≡ w4 ++ timed image_version (c.joined, c.times) → w6 ≡ w5 ++ vector c.purged → w7 ≡ w6 ++ (u32 (length c.removed) ++ flat_map oid c.removed) → w8 ≡ w7 ++ (u32 (length c.writes) ++ flat_map written_bytes c.writes)
+    → w8 ≡ w0 ++ change_bytes image_version c
+change_written c w0 w1 w2 w3 w4 w5 w6 w7 w8 p1 p2 p3 p4 p5 p6 p7 p8 =
     let removed = u32 (length c.removed) ++ flat_map oid c.removed in
     let writes = u32 (length c.writes) ++ flat_map written_bytes c.writes in
-    let q6 = then_written w5 w6 w7 removed writes p6 p7 in
-    let q5 = then_written w4 w5 w7 (vector c.purged) (removed ++ writes) p5 q6 in
-    let q4 = then_written w3 w4 w7 (vector c.joined) (vector c.purged ++ (removed ++ writes)) p4 q5 in
-    let q3 = then_written w2 w3 w7 (mark_if c.mark) (vector c.joined ++ (vector c.purged ++ (removed ++ writes))) p3 q4 in
-    let q2 = then_written w1 w2 w7 (flag (is_quarantined c.mode)) (mark_if c.mark ++ (vector c.joined ++ (vector c.purged ++ (removed ++ writes)))) p2 q3 in
-    then_written w0 w1 w7 (u64 c.usn) (flag (is_quarantined c.mode) ++ (mark_if c.mark ++ (vector c.joined ++ (vector c.purged ++ (removed ++ writes))))) p1 q2
+    let seen = timed image_version (c.joined, c.times) in
+    let q7 = then_written w6 w7 w8 removed writes p7 p8 in
+    let q6 = then_written w5 w6 w8 (vector c.purged) (removed ++ writes) p6 q7 in
+    let q5 = then_written w4 w5 w8 seen (vector c.purged ++ (removed ++ writes)) p5 q6 in
+    let q4 = then_written w3 w4 w8 (mark_if c.mark) (seen ++ (vector c.purged ++ (removed ++ writes))) p4 q5 in
+    let q3 = then_written w2 w3 w8 (u32 c.schema) (mark_if c.mark ++ (seen ++ (vector c.purged ++ (removed ++ writes)))) p3 q4 in
+    let q2 = then_written w1 w2 w8 (flag (is_quarantined c.mode)) (u32 c.schema ++ (mark_if c.mark ++ (seen ++ (vector c.purged ++ (removed ++ writes))))) p2 q3 in
+    then_written w0 w1 w8 (u64 c.usn) (flag (is_quarantined c.mode) ++ (u32 c.schema ++ (mark_if c.mark ++ (seen ++ (vector c.purged ++ (removed ++ writes)))))) p1 q2

@@ -8,6 +8,7 @@ use Rattle.adr_values.specs.Numbered.{numbered}
 use Rattle.adr_values.specs.Vector.{at_most}
 use Rattle.adr_wire.specs.Reading.{is_above}
 use Rattle.adr_wire.specs.Ranges.{IsU16, IsU32, IsU64, IsId, IsUsn, IsUsn0, IsOrderedMark, IsOid, IsStamp, IsRowAbove, InTurn, IsCursors}
+use Rattle.adr_wire.specs.Timed.{IsVector2}
 use Rattle.adr_model.specs.Update.{Identifier}
 use Rattle.adr_model.specs.Live.{is_among}
 use Rattle.adr_model.specs.Write.{object_limit, link_limit}
@@ -15,7 +16,7 @@ use Rattle.adr_model.specs.Take.{mark_limit}
 use Rattle.adr_image.specs.declared.rows.Before.{Before}
 use Rattle.adr_wire.specs.Gathering.{Along}
 use Rattle.adr_image.specs.Image.{HeldRow, Rows, HeldLink, no_rows, with_held, is_allowed, Earlier, no_objects, with_rows, is_whole, Linked, with_link, Marked}
-use Rattle.adr_image.specs.Whole.{Parts, image_schema, dead_of, no_links}
+use Rattle.adr_image.specs.Whole.{Parts, is_schema, dead_of, no_links}
 
 -- from 1 to the USN of the image
 abbrev pub IsLocal : ℕ → ℕ → Type 0
@@ -61,9 +62,9 @@ abbrev pub AreLinks : ℕ → Table → List Rows → List HeldLink → Type 0
 AreLinks usn table os ls = IsCount link_limit (length ls) × Along with_link (IsLinkIn usn table (dead_of os)) (no_links os) ls
 
 pub record AreParts (p : Parts) : Type 0 where
-  pub schema : p.schema ≡ image_schema
+  pub schema : is_schema p.schema ≡ true
   pub usn : IsUsn0 p.usn
-  pub vector : IsCursors p.vector
+  pub seen : IsVector2 (p.vector, p.times)
   pub purged : IsCursors p.purged × (at_most p.purged p.vector ≡ true)
   pub marks : AreMarks p.marks
   pub objects : AreObjects p.usn (numbered p.schema) p.objects

@@ -9,16 +9,16 @@ use Rattle.adr_values.specs.declared.content.Content.TheVariants.{Class}
 use Rattle.adr_values.specs.Table.{class_at}
 use Rattle.adr_values.specs.Numbered.{numbered}
 use Rattle.adr_wire.specs.declared.refusal.DecodeRefusal.{DecodeRefusal}
-use Rattle.adr_wire.specs.Headed.{headed_at, read_first}
+use Rattle.adr_wire.specs.Headed.{headed_at, is_version, read_either}
 use Rattle.adr_wire.specs.Reading.{Reading, as_at}
 use Rattle.adr_wire.specs.Ranges.{IsU16, IsU64, IsId, IsUsn0, IsMark, IsOid, IsStamp, IsContent, IsCursor}
 use Rattle.adr_model.specs.Member.{Each}
 use Rattle.adr_model.specs.Update.{Key, RowOf, LinkOf, Said, Holds, IsPresent, same_object}
 use Rattle.adr_model.specs.Store.{Held, Store}
 use Rattle.adr_image.specs.Image.{HeldRow, Rows, HeldLink, Marked}
-use Rattle.adr_image.specs.Whole.{Parts, image_schema, magic, parts_at, image_of}
+use Rattle.adr_image.specs.Whole.{Parts, IsOf, is_schema, magic, parts_at, image_of}
 
--- ---- from parts to a store, which has no times
+-- ---- from parts to a store
 
 abbrev pub held_of : Oid → HeldRow → Held
 held_of o h = record { update = record { key = RowOf o h.1.0; stamp = record { created = 0; stamp = h.1.1 }; said = Holds h.1.2 }; local = h.0 }
@@ -33,7 +33,7 @@ abbrev pub rows_of : List Rows × List HeldLink → List Held
 rows_of p = flat_map rows_of_object p.0 ++ map link_of p.1
 
 abbrev pub store_of : Parts → Store
-store_of p = record { schema = p.schema; usn = p.usn; rows = rows_of (p.objects, p.links); vector = p.vector; times = []; purged = p.purged; marks = p.marks }
+store_of p = record { schema = p.schema; usn = p.usn; rows = rows_of (p.objects, p.links); vector = p.vector; times = p.times; purged = p.purged; marks = p.marks }
 
 -- ---- from a store to parts
 
@@ -64,23 +64,34 @@ AreTidy [] = ⊤
 AreTidy (x ∷ xs) = (x.1 ≡ [] → ⊥) × IsNotFirst x.0 xs × AreTidy xs
 
 abbrev pub parts_in : Store → Parts
-parts_in s = record { schema = s.schema; usn = s.usn; vector = s.vector; purged = s.purged; marks = s.marks; objects = (apart s.rows).0; links = (apart s.rows).1 }
+parts_in s = record { schema = s.schema; usn = s.usn; vector = s.vector; times = s.times; purged = s.purged; marks = s.marks; objects = (apart s.rows).0; links = (apart s.rows).1 }
 
 -- ---- images of stores
 
+-- the version of the images that are written
+abbrev pub image_version : ℕ
+image_version = 2
+
 abbrev pub image : Store → List ℕ
-image s = image_of (parts_in s)
+image s = image_of image_version (parts_in s)
 
 -- what stands behind the version of an image, as a store
-abbrev pub store_at : Reading Store
-store_at = as_at store_of parts_at
+abbrev pub store_at : ℕ → Reading Store
+store_at version = as_at store_of (parts_at version)
 
 abbrev pub decoded : List ℕ → Result Store DecodeRefusal
-decoded = read_first magic store_at
+decoded = read_either magic store_at
 
--- an image of version 1 that stands in other bytes
-unfoldable pub image_at : Reading Store
-image_at = headed_at magic 1 store_at
+-- an image of a version that stands in other bytes
+unfoldable pub image_at : ℕ → Reading Store
+image_at version = headed_at magic version (store_at version)
+
+-- bytes are an image of the store, in a version that is read and can tell it
+pub record WasImage (bytes : List ℕ) (s : Store) : Type 0 where
+  pub version : ℕ
+  pub known : is_version version ≡ true
+  pub of : IsOf version (parts_in s)
+  pub spelled_so : bytes ≡ image_of version (parts_in s)
 
 -- ---- which stores have a spelling
 
@@ -92,11 +103,11 @@ IsSpelledRow (LinkOf l) (Holds c) stamp = ⊥
 IsSpelledRow (LinkOf l) (IsPresent b) stamp = IsOid l.from × IsU16 l.attr × IsOid l.to × IsU64 stamp.created × IsStamp stamp.stamp
 
 pub record IsSpelled (s : Store) : Type 0 where
-  pub schema : s.schema ≡ image_schema
+  pub schema : is_schema s.schema ≡ true
   pub usn : IsUsn0 s.usn
   pub vector : AllByRecursion IsCursor s.vector
-  -- images tell no times
-  pub times : s.times ≡ []
+  -- whose they are, the vector tells
+  pub times : AllByRecursion (λ t. IsU64 t.1) s.times
   pub purged : AllByRecursion IsCursor s.purged
   pub marks : Each (λ (k : Marked). IsId k.0 × (IsId k.1.inv × IsMark k.1.mark)) s.marks
   pub partners : IsStrictlySortedBy identifier_order (map (λ (k : Marked). k.0) s.marks)

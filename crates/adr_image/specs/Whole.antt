@@ -1,28 +1,34 @@
 -- A whole image: its parts as bytes, and the store that they are.
-use Rattle.std.specs.Prelude.{ℕ, List, [], ◌∷◌, ◌++◌, ◌==◌, length, map, nat_le, filter, fold, None, Result}
+use Rattle.std.specs.Prelude.{if◌then◌else◌, ◌≡◌, ℕ, List, [], ◌∷◌, ◌++◌, ◌==◌, ◌||◌, Bool, true, length, map, nat_le, filter, fold, None, Result}
 use Rattle.std.specs.List.{flat_map}
 use Rattle.adr_values.specs.declared.stamp.Oid.{Oid}
 use Rattle.adr_values.specs.Table.{Table}
 use Rattle.adr_values.specs.Numbered.{numbered}
 use Rattle.adr_values.specs.Vector.{Cursors, at_most}
 use Rattle.adr_wire.specs.declared.refusal.DecodeRefusal.{DecodeRefusal}
-use Rattle.adr_wire.specs.Headed.{head, read_first}
+use Rattle.adr_wire.specs.Headed.{head, read_either}
 use Rattle.adr_wire.specs.Reading.{Reading, as_at, where_at, then_at, gathered_at}
 use Rattle.adr_wire.specs.Fields.{u32_at, usn0_at, u32, u64}
 use Rattle.adr_wire.specs.Composites.{vector_at, vector}
+use Rattle.adr_wire.specs.Timed.{Timed, timed_at, timed}
 use Rattle.adr_model.specs.Write.{object_limit, link_limit}
 use Rattle.adr_model.specs.Take.{mark_limit}
 use Rattle.adr_image.specs.Image.{Rows, HeldLink, Marked, no_objects, with_rows, object_at, object, is_dead, Linked, with_link, link_at, held_link, marks_of, kept}
 
--- the number of the schema that each image of this version has
-abbrev pub image_schema : ℕ
-image_schema = 1
+-- the numbers of the schemas that there are
+abbrev pub is_schema : ℕ → Bool
+is_schema number = (number == 1) || (number == 2)
+
+-- and those that an image of a version tells: the first version knows the first schema alone
+abbrev pub is_schema_of : ℕ → ℕ → Bool
+is_schema_of version number = if version == 1 then number == 1 else is_schema number
 
 -- what an image says, in its order
 pub record Parts : Type 0 where
   pub schema : ℕ
   pub usn : ℕ
   pub vector : Cursors
+  pub times : Cursors
   pub purged : Cursors
   pub marks : List Marked
   pub objects : List Rows
@@ -51,15 +57,15 @@ links_at usn table objects =
     as_at (λ p. p.1) (then_at (count_at link_limit) (λ count. gathered_at with_link (link_at usn table (dead_of objects)) count (no_links objects)))
 
 abbrev pub Tuple : Type 0
-Tuple = ℕ × (ℕ × (Cursors × (Cursors × (List Marked × (List Rows × List HeldLink)))))
+Tuple = ℕ × (ℕ × (Timed × (Cursors × (List Marked × (List Rows × List HeldLink)))))
 
 -- what stands behind the version
-unfoldable pub tuple_at : Reading Tuple
-tuple_at =
-    then_at (where_at (λ n. n == image_schema) u32_at) (λ schema.
+unfoldable pub tuple_at : ℕ → Reading Tuple
+tuple_at version =
+    then_at (where_at (is_schema_of version) u32_at) (λ schema.
     then_at usn0_at (λ usn.
-    then_at vector_at (λ seen.
-    then_at (where_at (λ p. at_most p seen) vector_at) (λ _.
+    then_at (timed_at version) (λ seen.
+    then_at (where_at (λ p. at_most p seen.0) vector_at) (λ _.
     then_at marks_at (λ _.
     then_at (objects_at usn (numbered schema)) (λ objects.
     links_at usn (numbered schema) objects))))))
@@ -69,15 +75,16 @@ parts_of t =
     record {
       schema = t.0;
       usn = t.1.0;
-      vector = t.1.1.0;
+      vector = t.1.1.0.0;
+      times = t.1.1.0.1;
       purged = t.1.1.1.0;
       marks = t.1.1.1.1.0;
       objects = t.1.1.1.1.1.0;
       links = t.1.1.1.1.1.1;
     }
 
-unfoldable pub parts_at : Reading Parts
-parts_at = as_at parts_of tuple_at
+unfoldable pub parts_at : ℕ → Reading Parts
+parts_at version = as_at parts_of (tuple_at version)
 
 -- `ADIM`
 abbrev pub magic : List ℕ
@@ -85,7 +92,7 @@ magic = 65 ∷ 68 ∷ 73 ∷ 77 ∷ []
 
 -- what bytes say, or that they are of another version, or the least place that breaks a rule
 abbrev pub read_parts : List ℕ → Result Parts DecodeRefusal
-read_parts = read_first magic parts_at
+read_parts = read_either magic parts_at
 
 -- ---- spelled
 
@@ -98,8 +105,13 @@ objects os = u32 (length os) ++ flat_map object os
 abbrev pub links : List HeldLink → List ℕ
 links ls = u32 (length ls) ++ flat_map held_link ls
 
-abbrev pub body : Parts → List ℕ
-body p = u32 p.schema ++ (u64 p.usn ++ (vector p.vector ++ (vector p.purged ++ (marks p.marks ++ (objects p.objects ++ links p.links)))))
+abbrev pub body : ℕ → Parts → List ℕ
+body version p =
+    u32 p.schema ++ (u64 p.usn ++ (timed version (p.vector, p.times) ++ (vector p.purged ++ (marks p.marks ++ (objects p.objects ++ links p.links)))))
 
-abbrev pub image_of : Parts → List ℕ
-image_of p = head magic 1 ++ body p
+abbrev pub image_of : ℕ → Parts → List ℕ
+image_of version p = head magic version ++ body version p
+
+-- parts that an image of the version can tell: the first tells the first schema, and no times
+abbrev pub IsOf : ℕ → Parts → Type 0
+IsOf version p = (version == 1) ≡ true → (p.schema ≡ 1) × (p.times ≡ [])

@@ -39,13 +39,14 @@ impl Contents {
         ensures marks { IfOk result (λ made. made.1.items ≡ self.marks) }
     {
         let (schema, usn) = (self.schema, self.usn);
-        let (rows, vector, purged, marks) = self.into_parts();
+        let (rows, vector, times, purged, marks) = self.into_parts();
         let change = Change::new(
             usn,
             Mode::Normal,
             schema,
             None,
             vector,
+            times,
             purged,
             Vec::new(alloc),
             writes_of(alloc, rows)?,

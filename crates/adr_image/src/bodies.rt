@@ -6,8 +6,10 @@ ghost use Rattle.adr_wire.specs.Composites.{oid};
 ghost use Rattle.adr_wire.specs.Fields.{u32};
 ghost use Rattle.adr_image.specs.Body.{mark_if};
 ghost use Rattle.adr_image.specs.Changes.{AreShort, IsShortChange, change_bytes, unit_bytes, update_bytes, written_bytes};
+ghost use Rattle.adr_image.specs.Stored.{image_version};
 ghost use Rattle.adr_image.specs.Written.{IsShortSaid};
 
+use crate::decoding::VERSION;
 use crate::encoding::{write_kept, write_told};
 use adr_change::{Change, PartnerMark};
 use adr_update::{NoMemory, Update, Written};
@@ -106,15 +108,16 @@ fn write_mark_if(writer: &mut Writer, mark: &Option<(Guid, PartnerMark)>) -> Res
     }
 }
 
-/// Writes a change.
+/// Writes a change in the version that is written.
 fn write_change(writer: &mut Writer, change: &Change) -> Result<(), NoMemory>
     requires { IsShortChange change.now }
-    ensures { OnOk result (writer.new ≡ writer.old ++ change_bytes change.now) }
+    ensures { OnOk result (writer.new ≡ writer.old ++ change_bytes image_version change.now) }
 {
     writer.write_usn0(&change.usn())?;
     writer.write_flag(&change.mode().is_quarantined())?;
+    writer.write_u32(&change.schema().number())?;
     write_mark_if(writer, &change.mark())?;
-    writer.write_vector(change.joined())?;
+    writer.write_timed(VERSION, change.joined(), change.times())?;
     writer.write_vector(change.purged())?;
     write_removed(writer, change.removed())?;
     write_writes(writer, change.writes())
@@ -123,7 +126,7 @@ fn write_change(writer: &mut Writer, change: &Change) -> Result<(), NoMemory>
 /// Writes a change as the body of a record.
 pub fn encode_change(alloc: Global, change: &Change) -> Result<Vec<u8>, NoMemory>
     requires { IsShortChange change.now }
-    ensures { IfOk result (λ bytes. bytes.items ≡ change_bytes change.now) }
+    ensures { IfOk result (λ bytes. bytes.items ≡ change_bytes image_version change.now) }
 {
     let mut writer = Writer::with_room(alloc, CHANGE_ROOM)?;
     write_change(&mut writer, change)?;

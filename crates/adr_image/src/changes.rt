@@ -8,11 +8,13 @@ ghost use Rattle.adr_model.specs.Update.{IsPresent, LinkOf};
 ghost use Rattle.adr_wire.specs.Fields.{usn_at};
 ghost use Rattle.adr_wire.specs.Pieces.{piece_at};
 ghost use Rattle.adr_wire.specs.Composites.{link_at, object_at};
-ghost use Rattle.adr_wire.specs.Reading.{GivesAs, Tells, is_above, where_at};
+ghost use Rattle.adr_wire.specs.Reading.{GivesAs, Tells, TellsAs, is_above, where_at};
 ghost use Rattle.adr_image.specs.Body as form;
 ghost use Rattle.adr_image.specs.Changes.{change_of, decoded_change, item_of, mode_of_flag, written_of};
 ghost use Rattle.adr_image.specs.Seen.{GivesSeen};
 
+use crate::contents::read_schema;
+use crate::decoding::VERSION;
 use crate::links::LinkItem;
 use crate::marks::read_kept;
 use adr_change::{Change, Mode, PartnerMark};
@@ -162,38 +164,54 @@ fn mode_of_flag(quarantined: bool) -> Mode
     }
 }
 
-/// The body of a record behind a controller's USN, as a change under a schema.
+/// The schema of a body, which in version 1 is that of the state.
+#[tactic(auto, unfolding(crate::specs::Body::number_at))]
+fn read_number(reader: &mut Reader<'_>, version: u16, schema: Schema) -> Result<Schema, WireRefusal>
+    ensures { TellsAs (λ read. read.number) result reader.new (form.number_at version schema.number reader.old) }
+{
+    if version == 1 {
+        return Ok(schema);
+    }
+    read_schema(reader, VERSION)
+}
+
+/// The body of a record of a version behind a controller's USN and under its schema, as a change.
 #[tactic(auto, unfolding(crate::specs::Body::body_at))]
 fn read_body(
     reader: &mut Reader<'_>,
     alloc: Global,
+    version: u16,
     before: u64,
     schema: Schema,
 ) -> Result<Change, WireRefusal>
-    ensures { GivesSeen (λ change b. change ≡ change_of schema.number b) result reader.new (form.body_at before reader.old) }
+    ensures { GivesSeen (λ change b. change ≡ change_of b) result reader.new (form.body_at version before schema.number reader.old) }
 {
     let usn = reader.read_usn0()?;
     let quarantined = reader.read_flag()?;
+    let schema = read_number(reader, version, schema)?;
     let mark = read_mark_if(reader)?;
-    let joined = reader.read_vector(alloc)?;
+    let (joined, times) = reader.read_timed(alloc, version)?;
     let purged = reader.read_vector(alloc)?;
     let removed = read_removed(reader, alloc)?;
     let writes = read_writes(reader, alloc, before)?;
     let mode = mode_of_flag(quarantined);
-    Ok(Change::new(usn, mode, schema, mark, joined, purged, removed, writes))
+    Ok(Change::new(
+        usn, mode, schema, mark, joined, times, purged, removed, writes,
+    ))
 }
 
-/// The change that bytes say to a controller of this USN and this schema, if they are the body of a record.
+/// The change that bytes say to a controller of this USN and this schema, if they are the body of a record of the version.
 pub fn decode_change(
     alloc: Global,
+    version: u16,
     before: u64,
     schema: Schema,
     bytes: &[u8],
 ) -> Result<Option<Change>, NoMemory>
-    ensures { IfOk result (λ change. change ≡ decoded_change before schema.number bytes.now) }
+    ensures { IfOk result (λ change. change ≡ decoded_change version before schema.number bytes.now) }
 {
     let mut reader = Reader::new(bytes);
-    let change = match read_body(&mut reader, alloc, before, schema) {
+    let change = match read_body(&mut reader, alloc, version, before, schema) {
         Ok(change) => change,
         Err(Failure::Refused(_)) => return Ok(None),
         Err(Failure::NoMemory) => return Err(AllocError),

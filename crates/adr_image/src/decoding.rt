@@ -7,32 +7,40 @@ ghost use Rattle.adr_image.specs.Stored.{decoded, image_at, store_at};
 
 use crate::contents::{Contents, read_contents};
 use crate::dormant::Dormant;
-use adr_wire::{DecodeRefusal, Failure, Reader, WireRefusal, malformed, open_message};
+use adr_wire::{DecodeRefusal, Failure, Reader, WireRefusal, malformed, open_known};
 use std::alloc::Global;
 
 /// The bytes with which an image begins.
 pub const MAGIC: [u8; 4] = [65, 68, 73, 77];
 
-/// The version of the images that are read and written.
-pub const VERSION: u16 = 1;
+/// The version of the images and of the bodies of records that are written.
+pub const VERSION: u16 = 2;
 
 /// All that stands behind the version of an image, to its end.
-fn read_to_end(reader: &mut Reader<'_>, alloc: Global) -> Result<Contents, WireRefusal>
-    ensures { Ends result (store_at reader.old) }
+fn read_to_end(
+    reader: &mut Reader<'_>,
+    alloc: Global,
+    version: u16,
+) -> Result<Contents, WireRefusal>
+    ensures { Ends result (store_at version reader.old) }
 {
-    let contents = read_contents(reader, alloc)?;
+    let contents = read_contents(reader, alloc, version)?;
     reader.end()?;
     Ok(contents)
 }
 
-/// Reads an image that stands in other bytes.
+/// Reads an image of a version that stands in other bytes.
 #[tactic(auto, unfolding(crate::specs::Stored::image_at))]
-pub fn read_image(reader: &mut Reader<'_>, alloc: Global) -> Result<Contents, WireRefusal>
-    ensures { Gives result reader.new (image_at reader.old) }
+pub fn read_image(
+    reader: &mut Reader<'_>,
+    alloc: Global,
+    version: u16,
+) -> Result<Contents, WireRefusal>
+    ensures { Gives result reader.new (image_at version reader.old) }
 {
     reader.read_magic(&MAGIC)?;
-    reader.read_format_version(VERSION)?;
-    let contents = read_contents(reader, alloc)?;
+    reader.read_format_version(version)?;
+    let contents = read_contents(reader, alloc, version)?;
     Ok(contents)
 }
 
@@ -41,8 +49,8 @@ fn read_whole(alloc: Global, bytes: &[u8]) -> Result<Contents, Failure<DecodeRef
     ensures read { IfOk result (λ contents. decoded bytes.now ≡ Ok contents) }
     ensures refused { IfErr result (IsRefusedSo (decoded bytes.now)) }
 {
-    let mut reader = open_message(bytes, &MAGIC, VERSION)?;
-    match read_to_end(&mut reader, alloc) {
+    let (version, mut reader) = open_known(bytes, &MAGIC)?;
+    match read_to_end(&mut reader, alloc, version) {
         Ok(contents) => Ok(contents),
         Err(refusal) => Err(malformed(refusal)),
     }

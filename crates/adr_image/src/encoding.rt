@@ -170,7 +170,7 @@ pub fn write_image(writer: &mut Writer, contents: &ContentsRef<'_>) -> Result<()
     writer.write_head(&MAGIC, &VERSION)?;
     writer.write_u32(&contents.schema.number())?;
     writer.write_usn0(&contents.usn)?;
-    writer.write_vector(contents.vector)?;
+    writer.write_timed(VERSION, contents.vector, contents.times)?;
     writer.write_vector(contents.purged)?;
     write_marks(writer, contents.marks)?;
     write_rows(writer, contents.rows)
@@ -211,6 +211,7 @@ impl Contents {
             usn: self.usn,
             rows: rows.as_slice(),
             vector: &self.vector,
+            times: &self.times,
             purged: &self.purged,
             marks: &self.marks,
         };

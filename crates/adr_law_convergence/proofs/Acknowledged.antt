@@ -23,8 +23,9 @@ use Rattle.adr_model.specs.Write.{Write, AddObject, Modify, Rename, Delete, AddL
 use Rattle.adr_model.specs.Given.{IsWellGiven}
 use Rattle.adr_model.specs.Refused.{write_refused, serve_refused, take_refused, full}
 use Rattle.adr_disk.specs.declared.memory.Mishap.TheVariants.{Fails, Stops}
+use Rattle.adr_model.specs.Client.{done, written}
 use Rattle.adr_model.specs.Replica.{Pending, ToWrite, Up, Failed, Replica, moved, Went, Passed, Met, moves_of_commit, standing_after, outcome_after, commit_goes, device_after_commit}
-use Rattle.adr_model.specs.World.{Name, World, Gone, stays, bound_at, with_replica, committed, commit, after_write, writes, asks, serves_request, delivers}
+use Rattle.adr_model.specs.World.{Name, World, Gone, stays, bound_at, with_replica, committed, commit, after_call, does, asks, serves_request, delivers}
 use Rattle.adr_model.specs.Cycles.{reply_limit, pull_version}
 use Rattle.adr_model.specs.Step.{ClientWrite, client_write, write_of, step}
 use Rattle.adr_model.specs.Convergence.{IsIssuedItem, IsAcknowledged, AcknowledgedIsIssued}
@@ -112,7 +113,7 @@ module _ (w : World) (e : Event) (r : Replica) (there : Member r w.replicas) whe
     was_issued (Met place (Stops how)) usn h = absurd (cc)
     was_issued (Met place Fails) usn h = absurd (cc)
 
-    wrote : (t : Result Change WriteRefusal) → write r.safe what w.time ≡ t → IsTrueOf w e (after_write w r what t)
+    wrote : (t : Result Change WriteRefusal) → write r.safe what w.time ≡ t → IsTrueOf w e (after_call w r (ToWrite what w.time) (written t))
     wrote (Err x) h = λ usn same. absurd (plain_is_not (write_refused x) (write_refused_plainly x) usn same)
     wrote (Ok c) h = subst (λ (d : Change). IsTrueOf w e (commit w r (record { call = ToWrite what w.time; change = d }) (outcomes.Usn d.usn)))
         (answered (write_refusal r.safe what) change c h).1
@@ -128,9 +129,9 @@ taken_otherwise : (x : TakeRefusal) (usn : ℕ) → take_refused x ≢ outcomes.
 taken_otherwise takes.Quarantined usn e = absurd (cc)
 taken_otherwise _ usn e = absurd (cc)
 
-wrote_by_name : (w : World) (e : Event) (verb : List ℕ) (name : Name) (what : Write) → IsWellGiven what → write_of w e ≡ client_write verb name what → IsTrueOf w e (writes w name what)
-wrote_by_name w e verb name what is wrote_it = plain_reached (IsTrueOf w e) w name (stays w) (λ o plain usn same. absurd (plain_is_not o plain usn same)) (λ r. after_write w r what (write r.safe what w.time)) (λ r called up.
-    wrote w e r called.there (record { verb = verb; name = name; what = what }) is wrote_it called.name (write r.safe what w.time) refl)
+wrote_by_name : (w : World) (e : Event) (name : Name) (what : Write) → IsWellGiven what → write_of w e ≡ client_write name what → IsTrueOf w e (does w name (ToWrite what w.time))
+wrote_by_name w e name what is wrote_it = plain_reached (IsTrueOf w e) w name (stays w) (λ o plain usn same. absurd (plain_is_not o plain usn same)) (λ r. after_call w r (ToWrite what w.time) (done r.safe (ToWrite what w.time))) (λ r called up.
+    wrote w e r called.there (record { name = name; what = what }) is wrote_it called.name (write r.safe what w.time) refl)
 
 -- no answer of a message that comes, nor of a pull, is a USN
 abbrev IsNoUsn : Outcome → Type 0
@@ -158,7 +159,7 @@ says_nothing : (w : World) (e : Event) (t : World × List Answer) → Each (λ (
 says_nothing w e t none a m usn is = absurd (none a m usn is)
 
 pub acknowledged_is_issued : AcknowledgedIsIssued
-acknowledged_is_issued w e sound may usn a m is = line_case (IsTrue w) w (λ f v b plain n h. absurd (plain_is_not b.outcome plain n h)) (λ f verb name what given wrote_it. wrote_by_name w f verb name what given wrote_it)
+acknowledged_is_issued w e sound may usn a m is = line_case (IsTrue w) w (λ f v b plain n h. absurd (plain_is_not b.outcome plain n h)) (λ f verb name what given wrote_it. wrote_by_name w f name what given wrote_it)
     (λ name request bind n h. absurd (served_no_usn w name (bound_at w.requests request) n h))
     (λ name reply n h. absurd (taken_no_usn w name (bound_at w.replies reply) n h))
     (λ name source max. says_nothing w (events.Pull name source max) (step w (events.Pull name source max)) (pull_so (λ v. Unit {0}) (λ v q. Unit {0}) (λ v r. Unit {0}) IsNoUsn calls_no_usn name source max w tt).1)

@@ -5,28 +5,27 @@ use Rattle.adr_call.specs.declared.outcome.Outcome.TheVariants as outcomes
 use Rattle.adr_call.specs.declared.outcome.Outcome.{Outcome}
 use Rattle.adr_call.specs.declared.refusal.TakeRefusal.{TakeRefusal}
 use Rattle.adr_call.specs.declared.refusal.TakeRefusal.TheVariants as takes
-use Rattle.adr_call.specs.declared.refusal.WriteRefusal.{WriteRefusal}
-use Rattle.adr_call.specs.declared.refusal.CollectRefusal.{CollectRefusal}
 use Rattle.adr_model.specs.Member.{Member}
 use Rattle.adr_model.specs.Update.{Identifier}
 use Rattle.adr_model.specs.Change.{Change, after}
 use Rattle.adr_model.specs.Lengths.{change_fits}
 use Rattle.adr_model.specs.Serve.{Reply}
-use Rattle.adr_model.specs.Write.{Write, items_written, own_change, write_refusal, write}
-use Rattle.adr_model.specs.Given.{IsWellGiven}
+use Rattle.adr_model.specs.Client.{Done, done}
+use Rattle.adr_model.specs.Write.{items_written, own_change, write_refusal, write}
 use Rattle.adr_model.specs.Take.{take}
 use Rattle.adr_model.specs.Collect.{collection, deaths_to_collect, collect_refusal, collect}
 use Rattle.adr_disk.specs.declared.memory.Plan.{Plan}
-use Rattle.adr_model.specs.Replica.{Pending, ToWrite, ToTake, ToCollect, change_of, change_in, Standing, Up, Replica, Book, Settle, moved, moves_of_commit, moves_of_start, standing_after, Failed, ToUpgrade, Device, commit_goes, start_goes, device_after_commit, device_after_start}
-use Rattle.adr_model.specs.World.{World, Gone, with_replica, committed, commit, after_write, after_collect, after_take, after_moves, after_upgrade}
+use Rattle.adr_model.specs.Replica.{Call, Pending, ToWrite, ToTake, ToCollect, ToQuarantine, change_of, change_in, Standing, Up, Replica, Book, Settle, moved, moves_of_commit, moves_of_start, standing_after, Failed, ToUpgrade, Device, commit_goes, start_goes, device_after_commit, device_after_start}
+use Rattle.adr_model.specs.World.{World, Gone, with_replica, committed, commit, after_call, after_take, after_moves}
 use Rattle.adr_model.specs.Sound.{IsSoundCall, IsSettled, IsSoundReplica, IsSoundReply, IsGiven, IsSoundWorld, WereTold, IsTraced, IsTracedReply, IsSoundLast}
 use Rattle.adr_law_calls.proofs.Refused.{no_rollback as reply_shows_no_rollback}
 use Rattle.adr_law_knowledge.proofs.Refusing.{answered}
+use Rattle.adr_law_convergence.proofs.Calls.{in_change}
+use Rattle.adr_model.proofs.Calling.{done_changes}
 use Rattle.adr_law_convergence.proofs.Reached.{within_case}
 use Rattle.adr_law_convergence.proofs.Replacing.{MayStand, replaced}
 use Rattle.adr_law_convergence.proofs.Moving.{HasMoved, stays_so, settles_so, start_moves, commit_moves}
 use Rattle.adr_values.specs.Vector.{Cursors, IsVector}
-use Rattle.adr_call.specs.declared.refusal.UpgradeRefusal.{UpgradeRefusal}
 use Rattle.adr_model.specs.Upgrade.{upgraded, upgrade_refusal, upgrade}
 use Rattle.adr_law_convergence.proofs.Traced.{changed_traced, brought_told}
 use Rattle.adr_law_calls.specs.OnTheWay.{change_taken}
@@ -80,29 +79,26 @@ module _ (w : World) (sound : IsSoundWorld w) (r : Replica) (there : Member r w.
     brings_none : (c : Change) → IsVector c.joined → c.mark ≡ None → c.times ≡ [] → IsTraced w (after r.safe c).store
     brings_none c vector mark times = changed_traced w r.safe c vector (sound.identifiers.stores r there).0 (subst (λ o. IfSome o (λ m. IsGiven w m.1.inv)) (sym mark) tt) (subst (WereTold w c.joined) (sym times) (λ t m. absurd m))
 
-    pub write_sound : (what : Write) → IsWellGiven what → IsSoundWorld (after_write w r what (write r.safe what w.time)).0
-    write_sound what is = by (write r.safe what w.time) refl
-      where
-        by : (t : Result Change WriteRefusal) → write r.safe what w.time ≡ t → IsSoundWorld (after_write w r what t).0
-        by (Err x) e = sound
-        by (Ok c) e = commit_sound (record { call = ToWrite what w.time; change = c }) (outcomes.Usn c.usn) is (ap change_in e)
-            (subst (λ (d : Change). IsTraced w (after r.safe d).store) (answered (write_refusal r.safe what) (own_change r.safe (items_written r.safe what w.time)) c e).1 (brings_none (own_change r.safe (items_written r.safe what w.time)) empty_is_formed.vector refl refl))
+    -- the change of a client's call brings none
+    call_traced : (call : Call) (c : Change) → (done r.safe call).1 ≡ Some c → IsTraced w (after r.safe c).store
+    call_traced (ToWrite what now) c e =
+        subst (λ (d : Change). IsTraced w (after r.safe d).store) (answered (write_refusal r.safe what) (own_change r.safe (items_written r.safe what now)) c (in_change (write r.safe what now) c (done_changes r.safe (ToWrite what now) c e))).1
+        (brings_none (own_change r.safe (items_written r.safe what now)) empty_is_formed.vector refl refl)
+    call_traced (ToCollect now lifetime) c e =
+        subst (λ (d : Change). IsTraced w (after r.safe d).store) (answered (collect_refusal r.safe (collection r.safe (deaths_to_collect r.safe now lifetime))) (collection r.safe (deaths_to_collect r.safe now lifetime)) c (in_change (collect r.safe now lifetime) c (done_changes r.safe (ToCollect now lifetime) c e))).1
+        (brings_none (collection r.safe (deaths_to_collect r.safe now lifetime)) empty_is_formed.vector refl refl)
+    call_traced ToUpgrade c e =
+        subst (λ (d : Change). IsTraced w (after r.safe d).store) (answered (upgrade_refusal r.safe) (upgraded r.safe) c (in_change (upgrade r.safe) c (done_changes r.safe ToUpgrade c e))).1
+        (brings_none (upgraded r.safe) empty_is_formed.vector refl refl)
+    call_traced (ToTake reply) c e = absurd (cc e)
+    call_traced ToQuarantine c e = absurd (cc e)
 
-    pub collect_sound : (lifetime : ℕ) → IsSoundWorld (after_collect w r lifetime (collect r.safe w.time lifetime)).0
-    collect_sound lifetime = by (collect r.safe w.time lifetime) refl
+    pub call_sound : (call : Call) → IsSoundCall w.book call → IsSoundWorld (after_call w r call (done r.safe call)).0
+    call_sound call is = by (done r.safe call) refl
       where
-        by : (t : Result Change CollectRefusal) → collect r.safe w.time lifetime ≡ t → IsSoundWorld (after_collect w r lifetime t).0
-        by (Err x) e = sound
-        by (Ok c) e = commit_sound (record { call = ToCollect w.time lifetime; change = c }) (outcomes.Removed (length c.removed)) tt (ap change_in e)
-            (subst (λ (d : Change). IsTraced w (after r.safe d).store) (answered (collect_refusal r.safe (collection r.safe (deaths_to_collect r.safe w.time lifetime))) (collection r.safe (deaths_to_collect r.safe w.time lifetime)) c e).1 (brings_none (collection r.safe (deaths_to_collect r.safe w.time lifetime)) empty_is_formed.vector refl refl))
-
-    pub upgrade_sound : IsSoundWorld (after_upgrade w r (upgrade r.safe)).0
-    upgrade_sound = by (upgrade r.safe) refl
-      where
-        by : (t : Result Change UpgradeRefusal) → upgrade r.safe ≡ t → IsSoundWorld (after_upgrade w r t).0
-        by (Err x) e = sound
-        by (Ok c) e = commit_sound (record { call = ToUpgrade; change = c }) outcomes.Ok tt (ap change_in e)
-            (subst (λ (d : Change). IsTraced w (after r.safe d).store) (answered (upgrade_refusal r.safe) (upgraded r.safe) c e).1 (brings_none (upgraded r.safe) empty_is_formed.vector refl refl))
+        by : (d : Done) → done r.safe call ≡ d → IsSoundWorld (after_call w r call d).0
+        by (told, None) e = sound
+        by (told, Some c) e = let made = ap (λ (d : Done). d.1) e in commit_sound (record { call = call; change = c }) told is (done_changes r.safe call c made) (call_traced call c made)
 
     other_refusal : (reply : Reply) (x : TakeRefusal) → ((inv : Identifier) (mine shown : ℕ) → x ≢ takes.RolledBack inv mine shown) → (after_take w r reply (Err x)).0 ≡ w
     other_refusal reply (takes.RolledBack inv mine shown) other = absurd (other inv mine shown refl)

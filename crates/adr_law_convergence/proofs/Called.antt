@@ -2,26 +2,23 @@
 use Rattle.std.proofs.Common.{◌≡◌, ◌≢◌, ℕ, true, List, [], ◌∷◌, Option, Some, None, Result, Ok, Err, refl, ap, length}
 use Rattle.adr_call.specs.declared.outcome.Outcome.{Outcome}
 use Rattle.adr_call.specs.declared.outcome.Outcome.TheVariants as outcomes
-use Rattle.adr_call.specs.declared.refusal.WriteRefusal.{WriteRefusal}
 use Rattle.adr_call.specs.declared.refusal.ServeRefusal.{ServeRefusal}
 use Rattle.adr_call.specs.declared.refusal.ServeRefusal.TheVariants as serves
 use Rattle.adr_call.specs.declared.refusal.TakeRefusal.{TakeRefusal}
 use Rattle.adr_call.specs.declared.refusal.TakeRefusal.TheVariants as takes
-use Rattle.adr_call.specs.declared.refusal.CollectRefusal.{CollectRefusal}
 use Rattle.adr_model.specs.Member.{Member}
 use Rattle.adr_model.specs.Store.{Store}
 use Rattle.adr_model.specs.Change.{Change}
 use Rattle.adr_model.specs.Lengths.{change_fits}
 use Rattle.adr_model.specs.Serve.{Request, Reply, serve}
-use Rattle.adr_model.specs.Write.{Write, write}
+use Rattle.adr_model.specs.Client.{Done, done}
 use Rattle.adr_model.specs.Take.{take}
-use Rattle.adr_model.specs.Collect.{collect, backup, quarantine}
-use Rattle.adr_call.specs.declared.refusal.UpgradeRefusal.{UpgradeRefusal}
-use Rattle.adr_model.specs.Upgrade.{upgrade}
+use Rattle.adr_model.specs.Collect.{backup, quarantine}
 use Rattle.adr_model.specs.Refused.{serve_refused, take_refused}
 use Rattle.adr_disk.specs.declared.memory.Plan.{Plan}
-use Rattle.adr_model.specs.Replica.{Call, Pending, change_in, change_of, ToWrite, ToTake, ToCollect, ToUpgrade, ToQuarantine, Standing, Up, Down, Failed, Replica, Move, Settle, moves_of_commit, moves_of_start, standing_after, Device, commit_goes, start_goes, device_after_commit, device_after_start, device_settled}
-use Rattle.adr_model.specs.World.{Name, World, Gone, Sent, stays, nothing, replica_at, of_made, of_controller, committed, commit, quarantines, writes, after_write, after_collect, after_upgrade, noted, asks, after_serve, served, serves_request, after_take, delivered, delivers, backed_up, with_plan, after_moves, stops, starts}
+use Rattle.adr_model.specs.Replica.{Call, Pending, change_in, change_of, ToTake, ToQuarantine, Standing, Up, Down, Failed, Replica, Move, Settle, moves_of_commit, moves_of_start, standing_after, Device, commit_goes, start_goes, device_after_commit, device_after_start, device_settled}
+use Rattle.adr_model.specs.World.{Name, World, Gone, Sent, stays, nothing, replica_at, of_made, of_controller, committed, commit, quarantines, after_call, does, noted, asks, after_serve, served, serves_request, after_take, delivered, delivers, backed_up, with_plan, after_moves, stops, starts}
+use Rattle.adr_model.proofs.Calling.{done_changes}
 use Rattle.adr_law_convergence.proofs.Reached.{made_case, up_case, reached_case, fits_case}
 
 -- what calls of controllers keep of a world: such a call that isn't refused is committed where the log has room for its change
@@ -70,17 +67,9 @@ module _ (Q : World → Type 0) (May : Call → Type 0) (w : World) (keeps : IsK
       quarantining : May ToQuarantine → (outcome : Outcome) → Behind (quarantines w r outcome)
       quarantining may outcome = commits (record { call = ToQuarantine; change = quarantine r.safe }) outcome may refl
 
-      wrote : (what : Write) → May (ToWrite what w.time) → (t : Result Change WriteRefusal) → write r.safe what w.time ≡ t → Behind (after_write w r what t)
-      wrote what may (Err x) e = keeps.same
-      wrote what may (Ok c) e = commits (record { call = ToWrite what w.time; change = c }) (outcomes.Usn c.usn) may (ap change_in e)
-
-      collected : (lifetime : ℕ) → May (ToCollect w.time lifetime) → (t : Result Change CollectRefusal) → collect r.safe w.time lifetime ≡ t → Behind (after_collect w r lifetime t)
-      collected lifetime may (Err x) e = keeps.same
-      collected lifetime may (Ok c) e = commits (record { call = ToCollect w.time lifetime; change = c }) (outcomes.Removed (length c.removed)) may (ap change_in e)
-
-      changed_over : May ToUpgrade → (t : Result Change UpgradeRefusal) → upgrade r.safe ≡ t → Behind (after_upgrade w r t)
-      changed_over may (Err x) e = keeps.same
-      changed_over may (Ok c) e = commits (record { call = ToUpgrade; change = c }) outcomes.Ok may (ap change_in e)
+      called : (call : Call) → May call → (d : Done) → done r.safe call ≡ d → Behind (after_call w r call d)
+      called call may (told, None) e = keeps.same
+      called call may (told, Some c) e = commits (record { call = call; change = c }) told may (done_changes r.safe call c (ap (λ (d : Done). d.1) e))
 
       taken : May ToQuarantine → (reply : Reply) → May (ToTake reply) → (t : Result Change TakeRefusal) → take r.safe reply ≡ t → Behind (after_take w r reply t)
       taken shut reply may (Ok c) e = commits (record { call = ToTake reply; change = c }) (outcomes.Took (length reply.items) (length c.writes) c.usn) may (ap change_in e)
@@ -100,8 +89,8 @@ module _ (Q : World → Type 0) (May : Call → Type 0) (w : World) (keeps : IsK
       delivered_one shut None may = keeps.same
       delivered_one shut (Some p) may = taken shut p (may p refl) (take r.safe p) refl
 
-  pub writes_so : (name : Name) (what : Write) → May (ToWrite what w.time) → Behind (writes w name what)
-  writes_so name what may = reached_case Behind w name (stays w) (λ x. keeps.same) (λ r. after_write w r what (write r.safe what w.time)) (λ r called up. wrote r called.there up what may (write r.safe what w.time) refl)
+  pub calls_so : (name : Name) (call : Call) → May call → Behind (does w name call)
+  calls_so name call may = reached_case Behind w name (stays w) (λ x. keeps.same) (λ r. after_call w r call (done r.safe call)) (λ r reached up. called r reached.there up call may (done r.safe call) refl)
 
   pub asks_so : (name partner : Name) (max version : ℕ) → Sent_so (asks w name partner max version)
   asks_so name partner max version =
@@ -112,12 +101,6 @@ module _ (Q : World → Type 0) (May : Call → Type 0) (w : World) (keeps : IsK
 
   pub delivers_so : (name : Name) (o : Option Reply) → May ToQuarantine → ((p : Reply) → o ≡ Some p → May (ToTake p)) → Behind (delivers w name o)
   delivers_so name o shut may = reached_case Behind w name (stays w) (λ x. keeps.same) (λ r. delivered w r o) (λ r called up. delivered_one r called.there up shut o may)
-
-  pub collects_so : (name : Name) (lifetime : ℕ) → May (ToCollect w.time lifetime) → Behind (of_controller w name (stays w) (λ r. after_collect w r lifetime (collect r.safe w.time lifetime)))
-  collects_so name lifetime may = reached_case Behind w name (stays w) (λ x. keeps.same) (λ r. after_collect w r lifetime (collect r.safe w.time lifetime)) (λ r called up. collected r called.there up lifetime may (collect r.safe w.time lifetime) refl)
-
-  pub upgrades_so : (name : Name) → May ToUpgrade → Behind (of_controller w name (stays w) (λ r. after_upgrade w r (upgrade r.safe)))
-  upgrades_so name may = reached_case Behind w name (stays w) (λ x. keeps.same) (λ r. after_upgrade w r (upgrade r.safe)) (λ r called up. changed_over r called.there up may (upgrade r.safe) refl)
 
   pub backs_up_so : (name : Name) → Sent_so (of_controller w name (nothing w) (λ r. backed_up w (backup r.safe)))
   backs_up_so name = reached_case Sent_so w name (nothing w) (λ x. keeps.same) (λ r. backed_up w (backup r.safe)) (λ r called up. by (backup r.safe))

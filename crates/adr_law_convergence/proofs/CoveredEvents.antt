@@ -7,16 +7,17 @@ use Rattle.adr_call.specs.declared.event.Event.{Event}
 use Rattle.adr_call.specs.declared.event.Event.TheVariants as events
 use Rattle.adr_model.specs.Store.{Store}
 use Rattle.adr_model.specs.Serve.{Request, Reply}
-use Rattle.adr_model.specs.Write.{write_meant, Revive}
+use Rattle.adr_model.specs.Write.{Revive}
+use Rattle.adr_model.specs.Replica.{ToWrite}
 use Rattle.adr_disk.specs.declared.memory.Mishap.TheVariants.{Fails, Stops}
-use Rattle.adr_model.specs.World.{Name, World, Snapshot, Sent, nothing, bound_at, asks, serves_request, delivers, reported}
+use Rattle.adr_model.specs.World.{Name, World, Snapshot, Sent, nothing, bound_at, of_image, does, asks, serves_request, delivers, reported}
 use Rattle.adr_model.specs.Cycles.{pulls, reply_limit, pull_version}
-use Rattle.adr_model.specs.Step.{gives, step, revival, stepped}
+use Rattle.adr_model.specs.Step.{gives, step}
 use Rattle.adr_model.specs.Convergence.{MayHappen, IsStoreOf, IsPurgedCovered, KeepsCovered, StaysCovered}
 use Rattle.adr_law_convergence.proofs.Reached.{made_case}
 use Rattle.adr_law_convergence.proofs.Exchanges.{IsKeptByCalls, pull_so, pulls_so, ring_so, way_case}
 use Rattle.adr_law_convergence.proofs.Covered.{grown_covers, purged_covered}
-use Rattle.adr_law_convergence.proofs.CoveredSteps.{asked, put_back_covered, given_more, writes_covered, serves_covered, delivers_covered, collects_covered, plans_covered, stops_covered, starts_covered, restores_covered, installs_covered, reports_covered, comes_covered, binds_request, binds_image, upgrades_covered}
+use Rattle.adr_law_convergence.proofs.CoveredSteps.{asked, put_back_covered, given_more, writes_covered, serves_covered, delivers_covered, asked_covered, plans_covered, stops_covered, starts_covered, restores_covered, installs_covered, reports_covered, comes_covered, binds_request, binds_image}
 use Rattle.adr_model.specs.Update.{Identifier}
 
 -- ---- pulls
@@ -48,14 +49,14 @@ pulls_covered w covered dest source max n = (pulls_so IsPurgedCovered CoversPurg
 revived_covered : (w : World) → IsPurgedCovered w → (name : Name) (guid : Identifier) (image : Name) (parent : Identifier) (text : List ℕ) → IsPurgedCovered (step w (events.Revive name guid image parent text)).0
 revived_covered w covered name guid image parent text = by (bound_at w.images image)
   where
-    by : (o : Option Store) → IsPurgedCovered (stepped w (events.Revive name guid image parent text) (revival name guid parent text o)).0
+    by : (o : Option Store) → IsPurgedCovered (of_image w o (λ i. does w name (ToWrite (Revive i guid parent text) w.time))).0
     by None = covered
     by (Some i) = writes_covered w covered name (Revive i guid parent text)
 
 event_covered : (w : World) (covered : IsPurgedCovered w) (e : Event) → MayHappen w e → KeepsCovered w e → (step w e).0.clean ≡ true → IsPurgedCovered (step w e).0
 event_covered w covered (events.Controller name dsa inv) may keeps clean = comes_covered w covered name dsa inv keeps
 event_covered w covered (events.Time now) may keeps clean = record { stores = covered.stores; requests = covered.requests }
-event_covered w covered (events.Write name what) may keeps clean = writes_covered w covered name (write_meant what)
+event_covered w covered (events.Calls name what) may keeps clean = asked_covered w covered name what keeps
 event_covered w covered (events.Ask name partner max version bind) may keeps clean = binds_request w covered name partner bind max version
 event_covered w covered (events.Serve name request bind) may keeps clean =
     let c = serves_covered w covered name (bound_at w.requests request) in record { stores = c.stores; requests = c.requests }
@@ -63,8 +64,6 @@ event_covered w covered (events.Deliver name reply) may keeps clean = delivers_c
 event_covered w covered (events.Pull name source max) may keeps clean = (pull_so IsPurgedCovered CoversPurged (λ v r. Unit {0}) (λ o. Unit {0}) only_worlds name source max w covered).0
 event_covered w covered (events.Cycle name source max) may keeps clean = pulls_covered w covered name source max reply_limit
 event_covered w covered (events.Ring name others rounds max) may keeps clean = (ring_so IsPurgedCovered CoversPurged (λ v r. Unit {0}) (λ o. Unit {0}) only_worlds (λ n d e. tt) name others rounds max w covered).0
-event_covered w covered (events.Collect name lifetime) may keeps clean = collects_covered w covered name lifetime keeps
-event_covered w covered (events.Upgrade name) may keeps clean = upgrades_covered w covered name
 event_covered w covered (events.Revive name guid image parent text) may keeps clean = revived_covered w covered name guid image parent text
 event_covered w covered (events.Backup name bind) may keeps clean = binds_image w covered name bind
 event_covered w covered (events.Restore name image inv) may keeps clean = restores_covered (gives w [] (inv ∷ [])) (given_more w covered [] (inv ∷ [])) name image inv

@@ -3,37 +3,39 @@ use Rattle.std.proofs.Common.{◌≡◌, ◌⊎◌, inl, inr, ℕ, List, [], ◌
 use Rattle.adr_call.specs.declared.outcome.Outcome.{Outcome}
 use Rattle.adr_call.specs.declared.outcome.Outcome.TheVariants as outcomes
 use Rattle.adr_call.specs.declared.event.Event.TheVariants as events
-use Rattle.adr_call.specs.declared.refusal.WriteRefusal.{WriteRefusal}
+use Rattle.adr_call.specs.declared.call.Call.{Call as Asked}
+use Rattle.adr_call.specs.declared.call.Call.TheVariants as calls
 use Rattle.adr_call.specs.declared.refusal.ServeRefusal.{ServeRefusal}
 use Rattle.adr_call.specs.declared.refusal.ServeRefusal.TheVariants as serves
 use Rattle.adr_call.specs.declared.refusal.TakeRefusal.{TakeRefusal}
 use Rattle.adr_call.specs.declared.refusal.TakeRefusal.TheVariants as takes
-use Rattle.adr_call.specs.declared.refusal.CollectRefusal.{CollectRefusal}
 use Rattle.adr_call.specs.declared.refusal.AdoptRefusal.{AdoptRefusal}
 use Rattle.adr_model.specs.Member.{Member}
 use Rattle.adr_model.specs.Update.{Identifier}
 use Rattle.adr_model.specs.Store.{Store, State, empty_state}
 use Rattle.adr_model.specs.Change.{Change, after}
 use Rattle.adr_model.specs.Serve.{Request, Reply, is_quarantined, ask, serve}
-use Rattle.adr_model.specs.Write.{Write, items_written, own_change, write_refusal, write}
+use Rattle.adr_model.specs.Client.{Done, call_meant, done}
+use Rattle.adr_model.specs.Write.{Write, items_written, own_change, write, write_meant, write_refusal}
 use Rattle.adr_model.specs.Take.{take_items, taken_change, take_refusal, take}
 use Rattle.adr_model.specs.Collect.{collection, deaths_to_collect, collect_refusal, collect, backup, adopt, quarantine}
 use Rattle.adr_model.specs.Lengths.{new_log, area_fits, change_fits}
 use Rattle.adr_model.specs.Refused.{serve_refused, take_refused, quarantined}
 use Rattle.adr_disk.specs.declared.memory.Plan.{Plan}
-use Rattle.adr_model.specs.Replica.{Pending, ToWrite, ToTake, ToCollect, ToUpgrade, ToQuarantine, Standing, Up, Down, Failed, Replica, on_new_disk, Book, begun, Settle, moved, moves_of_commit, moves_of_start, standing_after, Device, commit_goes, start_goes, device_after_commit, device_after_start, device_settled}
-use Rattle.adr_model.specs.World.{Name, World, Snapshot, Gone, Sent, stays, nothing, bound, bound_at, replica_at, with_replica, of_made, of_controller, committed, commit, quarantines, after_write, writes, after_collect, asks, after_serve, served, serves_request, after_take, delivered, delivers, backed_up, adopts, of_image, put_back, with_plan, stops, starts, shown, after_upgrade}
+use Rattle.adr_model.specs.Replica.{Call, Pending, ToWrite, ToTake, ToCollect, ToUpgrade, ToQuarantine, Standing, Up, Down, Failed, Replica, on_new_disk, Book, begun, Settle, moved, moves_of_commit, moves_of_start, standing_after, Device, commit_goes, start_goes, device_after_commit, device_after_start, device_settled}
+use Rattle.adr_model.specs.World.{Name, World, Snapshot, Gone, Sent, stays, nothing, bound, bound_at, replica_at, with_replica, of_made, of_controller, committed, commit, quarantines, after_call, does, asks, after_serve, served, serves_request, after_take, delivered, delivers, backed_up, adopts, of_image, put_back, with_plan, stops, starts, shown}
 use Rattle.adr_model.specs.Step.{gives, step}
 use Rattle.adr_model.specs.Convergence.{IsStoreOf, IsPurgedCovered, KeepsCovered}
 use Rattle.adr_model.proofs.Members.{member_of_either}
 use Rattle.adr_law_knowledge.proofs.Refusing.{answered}
 use Rattle.adr_law_calls.proofs.Woken.{adopted_is_woken}
 use Rattle.adr_law_convergence.proofs.Found.{bound_member}
-use Rattle.adr_law_convergence.proofs.Reached.{made_case, up_case, reached_case, within_case}
+use Rattle.adr_law_convergence.proofs.Calls.{in_change}
+use Rattle.adr_model.proofs.Calling.{done_changes}
+use Rattle.adr_law_convergence.proofs.Reached.{IsCalled, made_case, up_case, reached_case, within_case}
 use Rattle.adr_law_convergence.proofs.Binding.{MakesHere, made_none, only_made}
 use Rattle.adr_law_convergence.proofs.Covered.{IsGrown, IsCovered, MayCome, nothing_collected, nothing_covered, deaths_covered, raised_grows, as_it_was, purged_covered, comes_itself, changed_comes, both_come, placed, joining, requested, imaged}
 use Rattle.adr_law_convergence.proofs.Moves.{settling, starting, committing}
-use Rattle.adr_call.specs.declared.refusal.UpgradeRefusal.{UpgradeRefusal}
 use Rattle.adr_model.specs.Upgrade.{upgraded, upgrade_refusal, upgrade}
 
 -- ---- calls
@@ -57,10 +59,16 @@ module _ (w : World) (covered : IsPurgedCovered w) where
     quarantining : (outcome : Outcome) → IsPurgedCovered (quarantines w r outcome).0
     quarantining outcome = commits (record { call = ToQuarantine; change = quarantine r.safe }) outcome (nothing_covered w)
 
-    wrote : (what : Write) (t : Result Change WriteRefusal) → write r.safe what w.time ≡ t → IsPurgedCovered (after_write w r what t).0
-    wrote what (Err x) e = covered
-    wrote what (Ok c) e = commits (record { call = ToWrite what w.time; change = c }) (outcomes.Usn c.usn)
-        (unpurged (own_change r.safe (items_written r.safe what w.time)) c (answered (write_refusal r.safe what) (own_change r.safe (items_written r.safe what w.time)) c e).1 refl)
+    called : (call : Call) → ((c : Change) → (done r.safe call).1 ≡ Some c → IsCovered w c.purged) → (d : Done) → done r.safe call ≡ d → IsPurgedCovered (after_call w r call d).0
+    called call purged (told, None) e = covered
+    called call purged (told, Some c) e = commits (record { call = call; change = c }) told (purged c (ap (λ (d : Done). d.1) e))
+
+    wrote : (what : Write) (now : ℕ) (c : Change) → (done r.safe (ToWrite what now)).1 ≡ Some c → IsCovered w c.purged
+    wrote what now c e =
+        unpurged (own_change r.safe (items_written r.safe what now)) c (answered (write_refusal r.safe what) (own_change r.safe (items_written r.safe what now)) c (in_change (write r.safe what now) c (done_changes r.safe (ToWrite what now) c e))).1 refl
+
+    changed_over : (c : Change) → (done r.safe ToUpgrade).1 ≡ Some c → IsCovered w c.purged
+    changed_over c e = unpurged (upgraded r.safe) c (answered (upgrade_refusal r.safe) (upgraded r.safe) c (in_change (upgrade r.safe) c (done_changes r.safe ToUpgrade c e))).1 refl
 
     took : (reply : Reply) (t : Result Change TakeRefusal) → take r.safe reply ≡ t → IsPurgedCovered (after_take w r reply t).0
     took reply (Ok c) e = commits (record { call = ToTake reply; change = c }) (outcomes.Took (length reply.items) (length c.writes) c.usn)
@@ -81,17 +89,10 @@ module _ (w : World) (covered : IsPurgedCovered w) where
     served_bound None = covered
     served_bound (Some q) = answered_with (serve r.safe q w.time)
 
-    collected : (lifetime : ℕ) → ((c : Change) → collect r.safe w.time lifetime ≡ Ok c → IsCovered w (collection r.safe (deaths_to_collect r.safe w.time lifetime)).purged) → (t : Result Change CollectRefusal) → collect r.safe w.time lifetime ≡ t
-        → IsPurgedCovered (after_collect w r lifetime t).0
-    collected lifetime purged (Err x) e = covered
-    collected lifetime purged (Ok c) e = commits (record { call = ToCollect w.time lifetime; change = c }) (outcomes.Removed (length c.removed))
-        (subst (λ (d : Change). IsCovered w d.purged)
-        (answered (collect_refusal r.safe (collection r.safe (deaths_to_collect r.safe w.time lifetime))) (collection r.safe (deaths_to_collect r.safe w.time lifetime)) c e).1 (purged c e))
-
-    upgraded_from : (t : Result Change UpgradeRefusal) → upgrade r.safe ≡ t → IsPurgedCovered (after_upgrade w r t).0
-    upgraded_from (Err x) e = covered
-    upgraded_from (Ok c) e = commits (record { call = ToUpgrade; change = c }) outcomes.Ok
-        (unpurged (upgraded r.safe) c (answered (upgrade_refusal r.safe) (upgraded r.safe) c e).1 refl)
+    collected : (now lifetime : ℕ) → ((c : Change) → collect r.safe now lifetime ≡ Ok c → IsCovered w (collection r.safe (deaths_to_collect r.safe now lifetime)).purged) → (c : Change) → (done r.safe (ToCollect now lifetime)).1 ≡ Some c → IsCovered w c.purged
+    collected now lifetime purged c e = let is = in_change (collect r.safe now lifetime) c (done_changes r.safe (ToCollect now lifetime) c e) in
+        subst (λ (d : Change). IsCovered w d.purged)
+        (answered (collect_refusal r.safe (collection r.safe (deaths_to_collect r.safe now lifetime))) (collection r.safe (deaths_to_collect r.safe now lifetime)) c is).1 (purged c is)
 
     started_from : (standing : Standing) → IsPurgedCovered (starts w r standing).0
     started_from Up = covered
@@ -138,21 +139,23 @@ module _ (w : World) (covered : IsPurgedCovered w) where
 
   -- calls by name
 
-  pub writes_covered : (name : Name) (what : Write) → IsPurgedCovered (writes w name what).0
-  writes_covered name what = reached_case OfWorld w name (stays w) (λ x. covered) (λ r. after_write w r what (write r.safe what w.time)) (λ r is up. wrote r is.there what (write r.safe what w.time) refl)
+  call_covered : (name : Name) (call : Call) → ((r : Replica) → IsCalled w name r → r.standing ≡ Up → (c : Change) → (done r.safe call).1 ≡ Some c → IsCovered w c.purged) → IsPurgedCovered (does w name call).0
+  call_covered name call purged = reached_case OfWorld w name (stays w) (λ x. covered) (λ r. after_call w r call (done r.safe call)) (λ r is up. called r is.there call (purged r is up) (done r.safe call) refl)
+
+  pub writes_covered : (name : Name) (what : Write) → IsPurgedCovered (does w name (ToWrite what w.time)).0
+  writes_covered name what = call_covered name (ToWrite what w.time) (λ r is up. wrote r is.there what w.time)
+
+  pub asked_covered : (name : Name) (what : Asked) → KeepsCovered w (events.Calls name what) → IsPurgedCovered (does w name (call_meant what w.time)).0
+  asked_covered name (calls.Write what) keeps = writes_covered name (write_meant what)
+  asked_covered name (calls.Collect lifetime) keeps = call_covered name (ToCollect w.time lifetime) (λ r is up. collected r is.there w.time lifetime (λ c e.
+      let deaths = keeps r is.there is.name up c e in deaths_covered w (deaths_to_collect r.safe w.time lifetime) deaths.stores deaths.requests))
+  asked_covered name calls.Upgrade keeps = call_covered name ToUpgrade (λ r is up. changed_over r is.there)
 
   pub serves_covered : (name : Name) (o : Option Request) → IsPurgedCovered (serves_request w name o).0
   serves_covered name o = reached_case (λ (t : Sent Reply). IsPurgedCovered t.0) w name (nothing w) (λ x. covered) (λ r. served w r o) (λ r is up. served_bound r is.there o)
 
   pub delivers_covered : (name : Name) (o : Option Reply) → IsPurgedCovered (delivers w name o).0
   delivers_covered name o = reached_case OfWorld w name (stays w) (λ x. covered) (λ r. delivered w r o) (λ r is up. took_bound r is.there o)
-
-  pub collects_covered : (name : Name) (lifetime : ℕ) → KeepsCovered w (events.Collect name lifetime) → IsPurgedCovered (of_controller w name (stays w) (λ r. after_collect w r lifetime (collect r.safe w.time lifetime))).0
-  collects_covered name lifetime keeps = reached_case OfWorld w name (stays w) (λ x. covered) (λ r. after_collect w r lifetime (collect r.safe w.time lifetime)) (λ r is up.
-      collected r is.there lifetime (λ c e. let deaths = keeps r is.there is.name up c e in deaths_covered w (deaths_to_collect r.safe w.time lifetime) deaths.stores deaths.requests) (collect r.safe w.time lifetime) refl)
-
-  pub upgrades_covered : (name : Name) → IsPurgedCovered (of_controller w name (stays w) (λ r. after_upgrade w r (upgrade r.safe))).0
-  upgrades_covered name = reached_case OfWorld w name (stays w) (λ x. covered) (λ r. after_upgrade w r (upgrade r.safe)) (λ r is up. upgraded_from r is.there (upgrade r.safe) refl)
 
   backups_covered : (name : Name) → MakesHere w (MayCome w) (of_controller w name (nothing w) (λ r. backed_up w (backup r.safe)))
   backups_covered name = reached_case (MakesHere w (MayCome w)) w name (nothing w) (made_none w (MayCome w)) (λ r. backed_up w (backup r.safe)) (λ r is up. imaged_from r is.there (is_quarantined r.safe.mode))

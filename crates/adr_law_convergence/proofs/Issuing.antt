@@ -7,19 +7,19 @@ use Rattle.adr_call.specs.declared.refusal.AdoptRefusal.{AdoptRefusal}
 use Rattle.adr_model.specs.Lengths.{new_log, area_fits}
 use Rattle.adr_model.specs.Member.{Member, Each}
 use Rattle.adr_model.specs.Store.{Store, State}
-use Rattle.adr_model.specs.Write.{write_meant, Revive}
+use Rattle.adr_model.specs.Client.{call_meant}
+use Rattle.adr_model.specs.Write.{Revive}
 use Rattle.adr_model.specs.Collect.{adopt}
 use Rattle.adr_disk.specs.declared.memory.Mishap.TheVariants.{Fails, Stops}
-use Rattle.adr_model.specs.Replica.{Pending, issued_by, Standing, Replica, on_new_disk, Book, begun, Move, Begin, Settle, Forget, moved, Device}
-use Rattle.adr_model.specs.World.{Name, World, Snapshot, Gone, Sent, stays, nothing, bound_at, with_replica, begins, adopts, of_image, put_back, after_moves, reported}
+use Rattle.adr_model.specs.Replica.{ToWrite, Pending, issued_by, Standing, Replica, on_new_disk, Book, begun, Move, Begin, Settle, Forget, moved, Device}
+use Rattle.adr_model.specs.World.{Name, World, Snapshot, Gone, Sent, stays, nothing, bound_at, with_replica, begins, adopts, does, of_image, put_back, after_moves, reported}
 use Rattle.adr_model.specs.Cycles.{pulls, reply_limit, pull_version}
 use Rattle.adr_model.specs.Step.{gives, step}
 use Rattle.adr_model.specs.Convergence.{IssuedStays, StaysClean, StaysUnclean, puts_back}
 use Rattle.adr_model.proofs.Members.{member_left}
 use Rattle.adr_law_convergence.proofs.Reached.{made_case, within_case}
-use Rattle.adr_model.specs.Step.{stepped, revival}
 use Rattle.adr_model.specs.World.{noted}
-use Rattle.adr_law_convergence.proofs.Called.{IsKeptBehind, AnyCall, by_moves, upgrades_so, writes_so, asks_so, serves_so, delivers_so, collects_so, backs_up_so, plans_so, stops_so, starts_so, reports_so}
+use Rattle.adr_law_convergence.proofs.Called.{IsKeptBehind, AnyCall, by_moves, calls_so, asks_so, serves_so, delivers_so, backs_up_so, plans_so, stops_so, starts_so, reports_so}
 use Rattle.adr_law_convergence.proofs.Exchanges.{IsKeptByCalls, worlds_alone, pull_so, pulls_so, ring_so, way_case}
 use Rattle.adr_model.specs.Serve.{Reply}
 
@@ -101,20 +101,18 @@ module _ (w : World) where
   pub step_keeps : (e : Event) → Keeps (puts_back e) w (step w e).0
   step_keeps (events.Controller name dsa inv) = record { issued = λ u m. m; unclean = λ e. e; alike = λ e. refl }
   step_keeps (events.Time now) = record { issued = λ u m. m; unclean = λ e. e; alike = λ e. refl }
-  step_keeps (events.Write name what) = writes_so Q AnyCall w here name (write_meant what) tt
+  step_keeps (events.Calls name what) = calls_so Q AnyCall w here name (call_meant what w.time) tt
   step_keeps (events.Ask name partner max version bind) = let k = asks_so Q AnyCall w here name partner max version in record { issued = k.issued; unclean = k.unclean; alike = k.alike }
   step_keeps (events.Serve name request bind) = let k = serves_so Q AnyCall w here name (bound_at w.requests request) tt in record { issued = k.issued; unclean = k.unclean; alike = k.alike }
   step_keeps (events.Deliver name reply) = delivers_so Q AnyCall w here name (bound_at w.replies reply) tt (λ p e. tt)
   step_keeps (events.Pull name source max) = (pull_so Q (λ v q. Unit {0}) (λ v r. Unit {0}) (λ o. Unit {0}) calls_keep name source max w (same false w)).0
   step_keeps (events.Cycle name source max) = pulls_keep w name source max reply_limit (same false w)
   step_keeps (events.Ring name others rounds max) = (ring_so Q (λ v q. Unit {0}) (λ v r. Unit {0}) (λ o. Unit {0}) calls_keep (λ n d e. tt) name others rounds max w (same false w)).0
-  step_keeps (events.Collect name lifetime) = collects_so Q AnyCall w here name lifetime tt
-  step_keeps (events.Upgrade name) = upgrades_so Q AnyCall w here name tt
   step_keeps (events.Revive name guid image parent text) = by (bound_at w.images image)
     where
-      by : (o : Option Store) → Keeps false w (stepped w (events.Revive name guid image parent text) (revival name guid parent text o)).0
+      by : (o : Option Store) → Keeps false w (of_image w o (λ i. does w name (ToWrite (Revive i guid parent text) w.time))).0
       by None = same false w
-      by (Some i) = writes_so Q AnyCall w here name (Revive i guid parent text) tt
+      by (Some i) = calls_so Q AnyCall w here name (ToWrite (Revive i guid parent text) w.time) tt
   step_keeps (events.Backup name bind) = let k = backs_up_so Q AnyCall w here name in record { issued = k.issued; unclean = k.unclean; alike = k.alike }
   step_keeps (events.Restore name image inv) =
       made_case (Kept false w) (gives w [] (inv ∷ [])) name (stays (gives w [] (inv ∷ []))) (λ o. given) (λ r. of_image (gives w [] (inv ∷ [])) (bound_at w.images image) (λ i. adopts (gives w [] (inv ∷ [])) (with_replica w.replicas) name (adopt i r.safe.dsa inv)))

@@ -9,17 +9,17 @@ use Rattle.adr_call.specs.declared.refusal.ServeRefusal.TheVariants as serves
 use Rattle.adr_model.specs.Member.{Member, Each}
 use Rattle.adr_model.specs.Update.{Identifier}
 use Rattle.adr_model.specs.Store.{Store, State, empty_state}
-use Rattle.adr_model.specs.Given.{IsWellGiven}
 use Rattle.adr_model.specs.Spelled.{IsSpelledReply}
 use Rattle.adr_model.specs.Lengths.{new_log, area_fits}
 use Rattle.adr_model.specs.Serve.{Request, Reply, is_quarantined, serve}
-use Rattle.adr_model.specs.Write.{Write, write_meant, Revive}
+use Rattle.adr_model.specs.Client.{call_meant}
+use Rattle.adr_model.specs.Write.{Revive}
 use Rattle.adr_model.specs.Collect.{adopt, backup}
 use Rattle.adr_disk.specs.declared.memory.Mishap.TheVariants.{Fails, Stops}
-use Rattle.adr_model.specs.Replica.{Standing, Up, Down, Failed, Replica, on_disk, on_new_disk, Book, begun, Move, Settle, moved, Went, Met, moves_of_commit, moves_of_start, standing_after, Device, commit_goes, start_goes, device_after_commit, device_after_start, device_settled}
-use Rattle.adr_model.specs.World.{Name, World, Given, LastReply, Snapshot, Gone, Sent, stays, nothing, noted, bound, bound_at, replica_at, with_replica, of_made, of_controller, writes, asks, after_serve, served, serves_request, delivers, backed_up, adopts, of_image, put_back, after_moves, reported}
+use Rattle.adr_model.specs.Replica.{Call, ToWrite, Standing, Up, Down, Failed, Replica, on_disk, on_new_disk, Book, begun, Move, Settle, moved, Went, Met, moves_of_commit, moves_of_start, standing_after, Device, commit_goes, start_goes, device_after_commit, device_after_start, device_settled}
+use Rattle.adr_model.specs.World.{Name, World, Given, LastReply, Snapshot, Gone, Sent, stays, nothing, noted, bound, bound_at, replica_at, with_replica, of_made, of_controller, does, asks, after_serve, served, serves_request, delivers, backed_up, adopts, of_image, put_back, after_moves, reported}
 use Rattle.adr_model.specs.Cycles.{pulls, reply_limit, pull_version}
-use Rattle.adr_model.specs.Step.{gives, step, stepped, revival}
+use Rattle.adr_model.specs.Step.{gives, step}
 use Rattle.adr_model.specs.Sound.{IsOrderlyStore, IsOrderlyState, IsOrderlyReplica, IsOrderlySnapshot, AreBoundOnce, IsOrderlyWorld}
 use Rattle.adr_model.specs.Convergence.{IsNewName, IsUnbound, MayHappen}
 use Rattle.adr_model.proofs.Members.{member_left, member_right, member_of_either}
@@ -29,8 +29,8 @@ use Rattle.adr_law_convergence.proofs.Found.{bound_member, each_bound, in_place}
 use Rattle.adr_law_convergence.proofs.Reached.{made_case, reached_case, fits_case}
 use Rattle.adr_law_convergence.proofs.Binding.{only_made}
 use Rattle.adr_law_convergence.proofs.OrderlyLogs.{new_log_orderly}
-use Rattle.adr_law_convergence.proofs.OrderlyReplicas.{IsGivenCall, call_orderly, woken_orderly, replica_in, on_disk_orderly, plan_orderly, stop_orderly, start_orderly, commit_orderly}
-use Rattle.adr_law_convergence.proofs.Called.{IsKeptBehind, upgrades_so, writes_so, asks_so, serves_so, delivers_so, collects_so, plans_so, stops_so, starts_so, reports_so}
+use Rattle.adr_law_convergence.proofs.OrderlyReplicas.{IsGivenCall, asked_given, call_orderly, woken_orderly, replica_in, on_disk_orderly, plan_orderly, stop_orderly, start_orderly, commit_orderly}
+use Rattle.adr_law_convergence.proofs.Called.{IsKeptBehind, calls_so, asks_so, serves_so, delivers_so, plans_so, stops_so, starts_so, reports_so}
 use Rattle.adr_law_convergence.proofs.Exchanges.{IsKeptByCalls, pull_so, pulls_so, ring_so}
 
 -- ---- controllers
@@ -296,8 +296,8 @@ module _ (w : World) (is : IsOrderlyWorld w) where
   abbrev Sends_snapshot : Sent Snapshot → Type 0
   Sends_snapshot t = (t.0 ≡ w) × ((s : Snapshot) → t.2 ≡ Some s → IsOrderlySnapshot w s)
 
-  writes_orderly : (name : Name) (what : Write) → IsWellGiven what → IsOrderlyWorld (writes w name what).0
-  writes_orderly name what given = behind_call w is _ (writes_so Q IsGivenCall w keeps name what given)
+  does_orderly : (name : Name) (call : Call) → IsGivenCall call → IsOrderlyWorld (does w name call).0
+  does_orderly name call given = behind_call w is _ (calls_so Q IsGivenCall w keeps name call given)
 
   -- an image is of a state of a controller
   backs_up : (name : Name) → Sends_image (of_controller w name (nothing w) (λ r. backed_up w (backup r.safe)))
@@ -314,7 +314,7 @@ module _ (w : World) (is : IsOrderlyWorld w) where
   pub step_orderly : (e : Event) → MayHappen w e → IsOrderlyWorld (step w e).0
   step_orderly (events.Controller name dsa inv) may = comes (gives w (dsa ∷ []) (inv ∷ [])) (gives_more w is (dsa ∷ []) (inv ∷ [])) name dsa inv (member_right w.given.dsas (dsa ∷ []) dsa (inl refl)) (member_right w.given.invs (inv ∷ []) inv (inl refl)) may.0
   step_orderly (events.Time now) may = at_time w is now
-  step_orderly (events.Write name what) may = writes_orderly name (write_meant what) may
+  step_orderly (events.Calls name what) may = does_orderly name (call_meant what w.time) (asked_given what w.time may)
   step_orderly (events.Ask name partner max version bind) may = bound_behind (asks w name partner max version).0 (asks_orderly w is name partner max version)
     where
       bound_behind : (v : World) → IsBehindCall w v → IsOrderlyWorld (record v { requests = bound v.requests bind (asks w name partner max version).2 })
@@ -327,13 +327,11 @@ module _ (w : World) (is : IsOrderlyWorld w) where
   step_orderly (events.Pull name source max) may = (pull_so IsOrderlyWorld (λ v q. Unit {0}) SpelledIn (λ o. Unit {0}) calls_orderly name source max w is).0
   step_orderly (events.Cycle name source max) may = pulls_orderly w is name source max reply_limit
   step_orderly (events.Ring name others rounds max) may = (ring_so IsOrderlyWorld (λ v q. Unit {0}) SpelledIn (λ o. Unit {0}) calls_orderly (λ n d e. tt) name others rounds max w is).0
-  step_orderly (events.Collect name lifetime) may = behind_call w is _ (collects_so Q IsGivenCall w keeps name lifetime tt)
-  step_orderly (events.Upgrade name) may = behind_call w is _ (upgrades_so Q IsGivenCall w keeps name tt)
   step_orderly (events.Revive name guid image parent text) may = by (bound_at w.images image) refl
     where
-      by : (o : Option Store) → bound_at w.images image ≡ o → IsOrderlyWorld (stepped w (events.Revive name guid image parent text) (revival name guid parent text o)).0
+      by : (o : Option Store) → bound_at w.images image ≡ o → IsOrderlyWorld (of_image w o (λ i. does w name (ToWrite (Revive i guid parent text) w.time))).0
       by None e = is
-      by (Some i) e = writes_orderly name (Revive i guid parent text) (bound_member IsOrderlyStore w.images image i is.images e).formed
+      by (Some i) e = does_orderly name (ToWrite (Revive i guid parent text) w.time) (bound_member IsOrderlyStore w.images image i is.images e).formed
   step_orderly (events.Backup name bind) may =
       subst (λ (v : World). IsOrderlyWorld (record v { images = bound v.images bind (of_controller w name (nothing w) (λ r. backed_up w (backup r.safe))).2 })) (sym (backs_up name).0)
       (imaged w is bind (of_controller w name (nothing w) (λ r. backed_up w (backup r.safe))).2 may (backs_up name).1)

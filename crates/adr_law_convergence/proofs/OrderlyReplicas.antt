@@ -2,6 +2,8 @@
 use Rattle.std.proofs.Common.{◌≡◌, ◌≢◌, inl, inr, ⊎_elim, ℕ, List, [], ◌∷◌, Bool, true, false, not, ◌&&◌, Option, Some, None, Ok, refl, sym, subst, fold, nat_le, ◌==◌, if◌then◌else◌}
 use Rattle.std.proofs.lemmas.Bool.{eqb-true}
 use Rattle.adr_disk.specs.declared.memory.Crash.TheVariants.{Kept, Lost, Torn}
+use Rattle.adr_call.specs.declared.call.Call.{Call as Asked}
+use Rattle.adr_call.specs.declared.call.Call.TheVariants as calls
 use Rattle.adr_model.specs.Member.{Member}
 use Rattle.adr_model.specs.Update.{Identifier}
 use Rattle.adr_model.specs.Store.{Normal, Store, State}
@@ -16,6 +18,7 @@ use Rattle.adr_model.specs.Collect.{collect, adopt, woken, quarantine}
 use Rattle.adr_model.specs.Upgrade.{upgrade}
 use Rattle.adr_disk.specs.declared.memory.Mishap.TheVariants.{Fails, Stops}
 use Rattle.adr_disk.specs.declared.memory.Plan.{Plan}
+use Rattle.adr_model.specs.Client.{IsWellAsked, call_meant}
 use Rattle.adr_model.specs.Replica.{Call, ToWrite, ToTake, ToCollect, ToUpgrade, ToQuarantine, change_of, Pending, Standing, Up, Down, Failed, Device, Replica, on_disk, Book, Move, Begin, Settle, Forget, moved, Went, Passed, Met, moves_of_commit, moves_of_start, standing_after, plan_after, torn_log, logs_of_start, commit_goes, device_after_commit, device_settled}
 use Rattle.adr_model.specs.World.{Name, World}
 use Rattle.adr_model.specs.Sound.{IsOrderlyStore, IsOrderlyState, IsOrderlyLog, IsSettled, IsOrderlyReplica}
@@ -38,6 +41,11 @@ IsGivenCall (ToTake reply) = IsSpelledReply reply
 IsGivenCall (ToCollect now lifetime) = Unit {0}
 IsGivenCall ToUpgrade = Unit {0}
 IsGivenCall ToQuarantine = Unit {0}
+
+pub asked_given : (what : Asked) (now : ℕ) → IsWellAsked what → IsGivenCall (call_meant what now)
+asked_given (calls.Write what) now is = is
+asked_given (calls.Collect lifetime) now is = tt
+asked_given calls.Upgrade now is = tt
 
 module _ (w : World) where
   -- a change that can follow, of whatever mode

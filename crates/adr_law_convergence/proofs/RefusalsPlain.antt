@@ -1,8 +1,9 @@
 -- All lines but writes, messages that come and pulls answer plainly.
-use Rattle.std.proofs.Common.{◌≡◌, inl, inr, sym, subst, ℕ, List, [], ◌∷◌, ◌++◌, Bool, true, false, Option, Some, None, Result, Ok, Err, refl, length, if◌then◌else◌, codes, ap}
+use Rattle.std.proofs.Common.{◌≡◌, inl, inr, sym, subst, ℕ, List, [], ◌∷◌, ◌++◌, Bool, true, false, Option, Some, None, Result, Ok, Err, refl, if◌then◌else◌, codes, ap}
 use Rattle.adr_call.specs.declared.answer.Answer.{Answer}
 use Rattle.adr_call.specs.declared.outcome.Outcome.{Outcome}
 use Rattle.adr_call.specs.declared.outcome.Outcome.TheVariants as outcomes
+use Rattle.adr_call.specs.declared.call.Call.TheVariants as calls
 use Rattle.adr_call.specs.declared.event.Event.{Event}
 use Rattle.adr_call.specs.declared.event.Event.TheVariants as events
 use Rattle.adr_call.specs.Verbs.{verb_of_report, verb_of_write, word_of}
@@ -20,9 +21,10 @@ use Rattle.adr_model.specs.Given.{IsWellGiven}
 use Rattle.adr_model.specs.Collect.{collect, backup, adopt}
 use Rattle.adr_disk.specs.declared.memory.Mishap.TheVariants.{Fails, Stops}
 use Rattle.adr_disk.specs.declared.memory.Plan.{Plan}
-use Rattle.adr_model.specs.Replica.{ToCollect, Standing, Up, Down, Failed, Replica, on_new_disk, begun, commit_goes, start_goes, ToUpgrade}
-use Rattle.adr_model.specs.World.{Name, World, Snapshot, Gone, Sent, answer, stays, nothing, bound_at, replica_at, with_replica, of_made, of_controller, committed, writes, after_collect, asks, serves_request, delivers, backed_up, adopts, of_image, put_back, with_plan, stops, starts, reported, after_upgrade}
-use Rattle.adr_model.specs.Step.{client_write, write_of, gives, step, revival, stepped}
+use Rattle.adr_model.specs.Client.{Done, changed_over, collected, done}
+use Rattle.adr_model.specs.Replica.{Call, ToCollect, ToWrite, Standing, Up, Down, Failed, Replica, on_new_disk, begun, commit_goes, start_goes, ToUpgrade}
+use Rattle.adr_model.specs.World.{Name, World, Snapshot, Gone, Sent, answer, stays, nothing, bound_at, replica_at, with_replica, of_made, of_controller, committed, after_call, does, asks, serves_request, delivers, backed_up, adopts, of_image, put_back, with_plan, stops, starts, reported}
+use Rattle.adr_model.specs.Step.{client_write, write_of, gives, step, told, revival}
 use Rattle.adr_model.specs.Convergence.{MayHappen}
 use Rattle.adr_law_convergence.proofs.Reached.{plain_made, plain_up, plain_reached, within_case}
 use Rattle.adr_law_convergence.proofs.Refusals.{IsPlain, collect_refused_plainly, adopt_refused_plainly, reported_plainly, after_calls, upgrade_refused_plainly}
@@ -42,21 +44,27 @@ module _ (w : World) where
   asked name partner max version =
       plain_made SendsPlainly w name (nothing w) (λ o plain. plain) _ (λ r is. plain_made SendsPlainly w partner (nothing w) (λ o plain. plain) _ (λ p at. plain_up SendsPlainly w name (nothing w) (λ o plain. plain) r.standing _ (λ up. refl)))
 
-  collected : (r : Replica) (lifetime : ℕ) (t : Result Change CollectRefusal) → AnswersPlainly (after_collect w r lifetime t)
-  collected r lifetime (Err x) = collect_refused_plainly x
-  collected r lifetime (Ok c) = within_case AnswersPlainly w (change_fits r.device.safe_log r.safe.store c) (committed w r (record { call = ToCollect w.time lifetime; change = c }) (outcomes.Removed (length c.removed))) refl
-      (after_calls IsPlain (λ o is. is) (outcomes.Removed (length c.removed)) refl (commit_goes r (record { call = ToCollect w.time lifetime; change = c })))
+  called : (r : Replica) (call : Call) (d : Done) → IsPlain d.0 → AnswersPlainly (after_call w r call d)
+  called r call (told, None) is = is
+  called r call (told, Some c) is = within_case AnswersPlainly w (change_fits r.device.safe_log r.safe.store c) (committed w r (record { call = call; change = c }) told) refl
+      (after_calls IsPlain (λ o is. is) told is (commit_goes r (record { call = call; change = c })))
 
-  collects : (name : Name) (lifetime : ℕ) → AnswersPlainly (of_controller w name (stays w) (λ r. after_collect w r lifetime (collect r.safe w.time lifetime)))
-  collects name lifetime = plain_reached AnswersPlainly w name (stays w) (λ o plain. plain) (λ r. after_collect w r lifetime (collect r.safe w.time lifetime)) (λ r is up. collected r lifetime (collect r.safe w.time lifetime))
+  does_plainly : (name : Name) (call : Call) → ((s : State) → IsPlain (done s call).0) → AnswersPlainly (does w name call)
+  does_plainly name call plainly = plain_reached AnswersPlainly w name (stays w) (λ o plain. plain) (λ r. after_call w r call (done r.safe call)) (λ r is up. called r call (done r.safe call) (plainly r.safe))
 
-  upgrades_from : (r : Replica) (t : Result Change UpgradeRefusal) → AnswersPlainly (after_upgrade w r t)
-  upgrades_from r (Err x) = upgrade_refused_plainly x
-  upgrades_from r (Ok c) = within_case AnswersPlainly w (change_fits r.device.safe_log r.safe.store c) (committed w r (record { call = ToUpgrade; change = c }) outcomes.Ok) refl
-      (after_calls IsPlain (λ o is. is) outcomes.Ok refl (commit_goes r (record { call = ToUpgrade; change = c })))
+  collects : (name : Name) (lifetime : ℕ) → AnswersPlainly (does w name (ToCollect w.time lifetime))
+  collects name lifetime = does_plainly name (ToCollect w.time lifetime) (λ s. by (collect s w.time lifetime))
+    where
+      by : (t : Result Change CollectRefusal) → IsPlain (collected t).0
+      by (Err x) = collect_refused_plainly x
+      by (Ok c) = refl
 
-  upgrades : (name : Name) → AnswersPlainly (of_controller w name (stays w) (λ r. after_upgrade w r (upgrade r.safe)))
-  upgrades name = plain_reached AnswersPlainly w name (stays w) (λ o plain. plain) (λ r. after_upgrade w r (upgrade r.safe)) (λ r is up. upgrades_from r (upgrade r.safe))
+  upgrades : (name : Name) → AnswersPlainly (does w name ToUpgrade)
+  upgrades name = does_plainly name ToUpgrade (λ s. by (upgrade s))
+    where
+      by : (t : Result Change UpgradeRefusal) → IsPlain (changed_over t).0
+      by (Err x) = upgrade_refused_plainly x
+      by (Ok c) = refl
 
   backs_up : (name : Name) → SendsPlainly (of_controller w name (nothing w) (λ r. backed_up w (backup r.safe)))
   backs_up name = plain_reached SendsPlainly w name (nothing w) (λ o plain. plain) (λ r. backed_up w (backup r.safe)) (λ r is up. by (is_quarantined r.safe.mode) r.safe.store)
@@ -120,7 +128,7 @@ one_answer Q v a is b (inr m) = absurd m
 
 -- what holds of plain answers, of those to writes, to messages that come and to pulls holds of those to every line that may happen
 module _ (Q : Event → World → Answer → Type 0) (w : World) (plain : (e : Event) (v : World) (a : Answer) → IsPlain a.outcome → Q e v a)
-    (wrote : (e : Event) (verb : List ℕ) (name : Name) (what : Write) → IsWellGiven what → write_of w e ≡ client_write verb name what → Q e (writes w name what).0 (answer verb name (writes w name what).1))
+    (wrote : (e : Event) (verb : List ℕ) (name : Name) (what : Write) → IsWellGiven what → write_of w e ≡ client_write name what → Q e (does w name (ToWrite what w.time)).0 (answer verb name (does w name (ToWrite what w.time)).1))
     (served : (name request bind : Name) → Q (events.Serve name request bind) (step w (events.Serve name request bind)).0 (answer (codes "serve") name (serves_request w name (bound_at w.requests request)).1))
     (took : (name reply : Name) → Q (events.Deliver name reply) (step w (events.Deliver name reply)).0 (answer (codes "deliver") name (delivers w name (bound_at w.replies reply)).1))
     (pulled : (name source : Name) (max : ℕ) → OfAnswers (Q (events.Pull name source max)) (step w (events.Pull name source max)))
@@ -131,29 +139,29 @@ module _ (Q : Event → World → Answer → Type 0) (w : World) (plain : (e : E
   plainly : (e : Event) (verb : List ℕ) (name : Name) (v : World) (o : Outcome) → IsPlain o → OfAnswers (Q e) (v, answer verb name o ∷ [])
   plainly e verb name v o is = one_answer (Q e) v (answer verb name o) (plain e v (answer verb name o) is)
 
-  written : (e : Event) (verb : List ℕ) (name : Name) (what : Write) → IsWellGiven what → write_of w e ≡ client_write verb name what → OfAnswers (Q e) ((writes w name what).0, answer verb name (writes w name what).1 ∷ [])
-  written e verb name what is wrote_it = one_answer (Q e) (writes w name what).0 (answer verb name (writes w name what).1) (wrote e verb name what is wrote_it)
+  written : (e : Event) (verb : List ℕ) (name : Name) (what : Write) → IsWellGiven what → write_of w e ≡ client_write name what → OfAnswers (Q e) ((does w name (ToWrite what w.time)).0, answer verb name (does w name (ToWrite what w.time)).1 ∷ [])
+  written e verb name what is wrote_it = one_answer (Q e) (does w name (ToWrite what w.time)).0 (answer verb name (does w name (ToWrite what w.time)).1) (wrote e verb name what is wrote_it)
 
   -- a revival, whether or not its image was made
   revived : (name : Name) (guid : Identifier) (image : Name) (parent : Identifier) (text : List ℕ) → OfAnswers (Q (events.Revive name guid image parent text)) (step w (events.Revive name guid image parent text))
   revived name guid image parent text = by (bound_at w.images image) refl
     where
-      by : (o : Option Store) → bound_at w.images image ≡ o → OfAnswers (Q (events.Revive name guid image parent text)) (stepped w (events.Revive name guid image parent text) (revival name guid parent text o))
+      by : (o : Option Store) → bound_at w.images image ≡ o → OfAnswers (Q (events.Revive name guid image parent text)) (told (codes "revive") name (of_image w o (λ i. does w name (ToWrite (Revive i guid parent text) w.time))))
       by None is = plainly (events.Revive name guid image parent text) (codes "revive") name w outcomes.Absent refl
       by (Some i) is = written (events.Revive name guid image parent text) (codes "revive") name (Revive i guid parent text) (bound_member IsFormedStore w.images image i images is) (ap (revival name guid parent text) is)
 
   pub line_case : (e : Event) → MayHappen w e → OfAnswers (Q e) (step w e)
   line_case (events.Controller name dsa inv) may = plainly (events.Controller name dsa inv) (codes "controller") name (step w (events.Controller name dsa inv)).0 outcomes.Ok refl
   line_case (events.Time now) may = λ a m. absurd m
-  line_case (events.Write name what) may = written (events.Write name what) (word_of (verb_of_write what)) name (write_meant what) may refl
+  line_case (events.Calls name (calls.Write what)) may = written (events.Calls name (calls.Write what)) (word_of (verb_of_write what)) name (write_meant what) may refl
+  line_case (events.Calls name (calls.Collect lifetime)) may = plainly (events.Calls name (calls.Collect lifetime)) (codes "collect") name (does w name (ToCollect w.time lifetime)).0 (does w name (ToCollect w.time lifetime)).1 (collects w name lifetime)
+  line_case (events.Calls name calls.Upgrade) may = plainly (events.Calls name calls.Upgrade) (codes "upgrade") name (does w name ToUpgrade).0 (does w name ToUpgrade).1 (upgrades w name)
   line_case (events.Ask name partner max version bind) may = plainly (events.Ask name partner max version bind) (codes "ask") name (step w (events.Ask name partner max version bind)).0 (asks w name partner max version).1 (asked w name partner max version)
   line_case (events.Serve name request bind) may = one_answer (Q (events.Serve name request bind)) (step w (events.Serve name request bind)).0 (answer (codes "serve") name (serves_request w name (bound_at w.requests request)).1) (served name request bind)
   line_case (events.Deliver name reply) may = one_answer (Q (events.Deliver name reply)) (step w (events.Deliver name reply)).0 (answer (codes "deliver") name (delivers w name (bound_at w.replies reply)).1) (took name reply)
   line_case (events.Pull name source max) may = pulled name source max
   line_case (events.Cycle name source max) may = cycled name source max
   line_case (events.Ring name others rounds max) may = ringed name others rounds max
-  line_case (events.Collect name lifetime) may = plainly (events.Collect name lifetime) (codes "collect") name (step w (events.Collect name lifetime)).0 (of_controller w name (stays w) (λ r. after_collect w r lifetime (collect r.safe w.time lifetime))).1 (collects w name lifetime)
-  line_case (events.Upgrade name) may = plainly (events.Upgrade name) (codes "upgrade") name (step w (events.Upgrade name)).0 (of_controller w name (stays w) (λ r. after_upgrade w r (upgrade r.safe))).1 (upgrades w name)
   line_case (events.Revive name guid image parent text) may = revived name guid image parent text
   line_case (events.Backup name bind) may = plainly (events.Backup name bind) (codes "backup") name (step w (events.Backup name bind)).0 (of_controller w name (nothing w) (λ r. backed_up w (backup r.safe))).1 (backs_up w name)
   line_case (events.Restore name image inv) may = plainly (events.Restore name image inv) (codes "restore") name (step w (events.Restore name image inv)).0 _ (restores (gives w [] (inv ∷ [])) name image inv)

@@ -18,8 +18,9 @@ use Rattle.adr_call.specs.declared.refusal.Table.TheVariants.{Log}
 use Rattle.adr_model.specs.Collect.{quarantine}
 use Rattle.adr_model.specs.Lengths.{log_limit, change_fits}
 use Rattle.adr_model.specs.Refused.{write_refused, serve_refused, take_refused, full}
-use Rattle.adr_model.specs.Replica.{Pending, ToWrite, ToTake, ToQuarantine, Replica, commit_goes}
-use Rattle.adr_model.specs.World.{Name, World, Gone, Sent, stays, nothing, bound_at, committed, commit, after_write, writes, after_serve, served, serves_request, after_take, delivered, delivers}
+use Rattle.adr_model.specs.Client.{done, written}
+use Rattle.adr_model.specs.Replica.{Call, Pending, ToWrite, ToTake, ToQuarantine, Replica, commit_goes}
+use Rattle.adr_model.specs.World.{Name, World, Gone, Sent, stays, nothing, bound_at, committed, commit, after_call, does, after_serve, served, serves_request, after_take, delivered, delivers}
 use Rattle.adr_model.specs.Cycles.{pull, pulls, reply_limit}
 use Rattle.adr_model.specs.Rings.{rings}
 use Rattle.adr_model.specs.Step.{step}
@@ -65,12 +66,12 @@ module _ (P : Outcome → Type 0) (plain : (o : Outcome) → IsPlain o → P o) 
           by (Ok c) e = after_all r (record { call = ToTake p; change = c }) (outcomes.Took (length p.items) (length c.writes) c.usn) (plain (outcomes.Took (length p.items) (length c.writes) c.usn) refl)
           by (Err x) e = refused_reply r p x (taking r there p is x e)
 
-  wrote : ((usn : ℕ) → P (outcomes.Usn usn)) → (r : Replica) (what : Write) (t : Result Change WriteRefusal) → P (after_write w r what t).1
-  wrote made r what (Err x) = plain (write_refused x) (write_refused_plainly x)
-  wrote made r what (Ok c) = after_all r (record { call = ToWrite what w.time; change = c }) (outcomes.Usn c.usn) (made c.usn)
+  wrote : ((usn : ℕ) → P (outcomes.Usn usn)) → (r : Replica) (call : Call) (t : Result Change WriteRefusal) → P (after_call w r call (written t)).1
+  wrote made r call (Err x) = plain (write_refused x) (write_refused_plainly x)
+  wrote made r call (Ok c) = after_all r (record { call = call; change = c }) (outcomes.Usn c.usn) (made c.usn)
 
-  writes_so : ((usn : ℕ) → P (outcomes.Usn usn)) → (name : Name) (what : Write) → P (writes w name what).1
-  writes_so made name what = plain_reached (λ (g : Gone). P g.1) w name (stays w) plain (λ r. after_write w r what (write r.safe what w.time)) (λ r is up. wrote made r what (write r.safe what w.time))
+  writes_so : ((usn : ℕ) → P (outcomes.Usn usn)) → (name : Name) (what : Write) → P (does w name (ToWrite what w.time)).1
+  writes_so made name what = plain_reached (λ (g : Gone). P g.1) w name (stays w) plain (λ r. after_call w r (ToWrite what w.time) (done r.safe (ToWrite what w.time))) (λ r is up. wrote made r (ToWrite what w.time) (write r.safe what w.time))
 
   pub spared : ((usn : ℕ) → P (outcomes.Usn usn)) → ((name request : Name) → P (serves_request w name (bound_at w.requests request)).1) → ((name reply : Name) → P (delivers w name (bound_at w.replies reply)).1)
       → ((name source : Name) (max : ℕ) → Each (λ (a : Answer). P a.outcome) (pull w name source max).1) → ((name source : Name) (max n : ℕ) → Each (λ (a : Answer). P a.outcome) (pulls n w name source max).1)

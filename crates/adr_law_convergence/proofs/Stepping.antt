@@ -2,33 +2,39 @@
 use Rattle.std.proofs.Common.{◌≡◌, ℕ, true, [], ◌∷◌, ◌++◌, Option, Some, None, refl, sym, subst}
 use Rattle.adr_call.specs.declared.outcome.Outcome.{Outcome}
 use Rattle.adr_call.specs.declared.outcome.Outcome.TheVariants as outcomes
+use Rattle.adr_call.specs.declared.call.Call.{Call as Asked}
+use Rattle.adr_call.specs.declared.call.Call.TheVariants as calls
 use Rattle.adr_call.specs.declared.event.Event.{Event}
 use Rattle.adr_call.specs.declared.event.Event.TheVariants as events
 use Rattle.adr_model.specs.Member.{Member}
 use Rattle.adr_model.specs.Store.{Store}
 use Rattle.adr_model.specs.Serve.{Request, Reply}
-use Rattle.adr_model.specs.Write.{Write, write_meant, write, Revive}
-use Rattle.adr_model.specs.Given.{IsWellGiven}
-use Rattle.adr_model.specs.Collect.{collect, adopt, backup}
+use Rattle.adr_model.specs.Client.{IsWellAsked, call_meant, done}
+use Rattle.adr_model.specs.Write.{Revive}
+use Rattle.adr_model.specs.Collect.{adopt, backup}
 use Rattle.adr_disk.specs.declared.memory.Mishap.TheVariants.{Fails, Stops}
 use Rattle.adr_disk.specs.declared.memory.Plan.{Plan}
-use Rattle.adr_model.specs.Replica.{Standing, Up, Down, Failed, Replica, device_settled}
-use Rattle.adr_model.specs.World.{Name, World, Snapshot, Gone, Sent, stays, nothing, bound, bound_at, writes, asks, serves_request, delivered, delivers, after_write, after_collect, backed_up, adopts, of_made, of_image, put_back, of_controller, with_plan, stops, starts, with_replica, replica_at, reported, after_upgrade}
+use Rattle.adr_model.specs.Replica.{Book, Call, ToWrite, Standing, Up, Down, Failed, Replica, device_settled}
+use Rattle.adr_model.specs.World.{Name, World, Snapshot, Gone, Sent, stays, nothing, bound, bound_at, does, asks, serves_request, delivered, delivers, after_call, backed_up, adopts, of_made, of_image, put_back, of_controller, with_plan, stops, starts, with_replica, replica_at, reported}
 use Rattle.adr_model.specs.Cycles.{pull, pulls, reply_limit, pull_version}
-use Rattle.adr_model.specs.Step.{gives, step, revival, stepped}
-use Rattle.adr_model.specs.Sound.{IsSoundRequest, IsSoundReply, IsSoundStore, IsSoundWorld, IsTraced}
+use Rattle.adr_model.specs.Step.{gives, step}
+use Rattle.adr_model.specs.Sound.{IsSoundCall, IsSoundRequest, IsSoundReply, IsSoundStore, IsSoundWorld, IsTraced}
 use Rattle.adr_model.specs.Convergence.{MayHappen}
 use Rattle.adr_law_convergence.proofs.Found.{bound_member}
 use Rattle.adr_law_convergence.proofs.Reached.{made_case, reached_case}
-use Rattle.adr_law_convergence.proofs.Acting.{planned, stopped, started_sound, write_sound, collect_sound, take_sound, upgrade_sound}
+use Rattle.adr_law_convergence.proofs.Acting.{planned, stopped, started_sound, call_sound, take_sound}
 use Rattle.adr_law_convergence.proofs.Binding.{Makes, only_made, IsRequest, IsReply, IsImage, asks_sound, serves_sound, backups_sound, requested, replied, imaged, aside, telling, telling_sound, replies_are_sound}
 use Rattle.adr_law_convergence.proofs.Exchanges.{Sends, IsKeptByCalls, pull_so, pulls_so, ring_so}
 use Rattle.adr_law_convergence.proofs.Coming.{given_sound, new_comes, installed, restored}
-use Rattle.adr_model.specs.Upgrade.{upgrade}
 
 -- a message that is made is bound in the world in which it was
 made_bound : {A : Type 0} (w : World) (P : World → A → Type 0) (t : Sent A) (with_it : World → World) (makes : Makes w P t) → IsSoundWorld (with_it (telling w makes.0)) → IsSoundWorld (with_it t.0)
 made_bound w P t with_it makes sound = subst (λ (v : World). IsSoundWorld (with_it v)) (sym makes.2) sound
+
+asked_sound : (book : Book) (what : Asked) (now : ℕ) → IsWellAsked what → IsSoundCall book (call_meant what now)
+asked_sound book (calls.Write what) now is = is
+asked_sound book (calls.Collect lifetime) now is = tt
+asked_sound book calls.Upgrade now is = tt
 
 module _ (w : World) (sound : IsSoundWorld w) where
   abbrev Sound : Gone → Type 0
@@ -37,8 +43,8 @@ module _ (w : World) (sound : IsSoundWorld w) where
   same : (x : Outcome) → Sound (w, x)
   same x = sound
 
-  writes_sound : (name : Name) (what : Write) → IsWellGiven what → Sound (writes w name what)
-  writes_sound name what is = reached_case Sound w name (stays w) same (λ r. after_write w r what (write r.safe what w.time)) (λ r called up. write_sound w sound r called.there up what is)
+  does_sound : (name : Name) (call : Call) → IsSoundCall w.book call → Sound (does w name call)
+  does_sound name call is = reached_case Sound w name (stays w) same (λ r. after_call w r call (done r.safe call)) (λ r reached up. call_sound w sound r reached.there up call is)
 
   -- what is bound to a name is a sound message, or a sound image
   request_bound : (name : Name) (q : Request) → bound_at w.requests name ≡ Some q → IsSoundRequest w.book q
@@ -112,7 +118,7 @@ module _ (w : World) (sound : IsSoundWorld w) where
   pub step_sound : (e : Event) → MayHappen w e → (step w e).0.clean ≡ true → IsSoundWorld (step w e).0
   step_sound (events.Controller name dsa inv) may clean = new_comes w sound inv may.1.1 name dsa may.0 may.1.0
   step_sound (events.Time now) may clean = aside w sound now w.snapshots
-  step_sound (events.Write name what) may clean = writes_sound w sound name (write_meant what) may
+  step_sound (events.Calls name what) may clean = does_sound w sound name (call_meant what w.time) (asked_sound w.book what w.time may)
   step_sound (events.Ask name partner max version bind) may clean =
       let makes = asks_sound w sound name partner max version in
       made_bound w IsRequest (asks w name partner max version) (λ v. record v { requests = bound v.requests bind (asks w name partner max version).2 }) makes
@@ -126,14 +132,11 @@ module _ (w : World) (sound : IsSoundWorld w) where
   step_sound (events.Pull name source max) may clean = pull_sound w sound name source max
   step_sound (events.Cycle name source max) may clean = pulls_sound w sound name source max reply_limit
   step_sound (events.Ring name others rounds max) may clean = (ring_so IsSoundWorld IsRequest IsReply (λ o. Unit {0}) only_worlds (λ n d e. tt) name others rounds max w sound).0
-  step_sound (events.Collect name lifetime) may clean =
-      reached_case SoundBehind w name (stays w) (λ x. sound) (λ r. after_collect w r lifetime (collect r.safe w.time lifetime)) (λ r called up. collect_sound w sound r called.there up lifetime)
-  step_sound (events.Upgrade name) may clean = reached_case SoundBehind w name (stays w) (λ x. sound) (λ r. after_upgrade w r (upgrade r.safe)) (λ r called up. upgrade_sound w sound r called.there up)
   step_sound (events.Revive name guid image parent text) may clean = revived (bound_at w.images image) refl
     where
-      revived : (o : Option Store) → bound_at w.images image ≡ o → IsSoundWorld (stepped w (events.Revive name guid image parent text) (revival name guid parent text o)).0
+      revived : (o : Option Store) → bound_at w.images image ≡ o → IsSoundWorld (of_image w o (λ i. does w name (ToWrite (Revive i guid parent text) w.time))).0
       revived None e = sound
-      revived (Some i) e = writes_sound w sound name (Revive i guid parent text) (bound_member (IsSoundStore w.book) w.images image i sound.images e).formed
+      revived (Some i) e = does_sound w sound name (ToWrite (Revive i guid parent text) w.time) (bound_member (IsSoundStore w.book) w.images image i sound.images e).formed
   step_sound (events.Backup name bind) may clean =
       let makes = backups_sound w sound name in
       made_bound w IsImage (of_controller w name (nothing w) (λ r. backed_up w (backup r.safe))) (λ v. record v { images = bound v.images bind (of_controller w name (nothing w) (λ r. backed_up w (backup r.safe))).2 }) makes

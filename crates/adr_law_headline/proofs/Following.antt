@@ -5,17 +5,20 @@ use Rattle.std.proofs.lemmas.List.{append-nil, map-append}
 use Rattle.adr_call.specs.declared.outcome.Outcome.TheVariants as outcomes
 use Rattle.adr_call.specs.declared.write.Write.{Write}
 use Rattle.adr_call.specs.declared.write.Write.TheVariants as writes
+use Rattle.adr_call.specs.declared.call.Call.{Call}
+use Rattle.adr_call.specs.declared.call.Call.TheVariants as calls
 use Rattle.adr_call.specs.declared.event.Event.{Event}
 use Rattle.adr_call.specs.declared.event.Event.TheVariants as events
 use Rattle.adr_values.specs.Assignments.{Given}
 use Rattle.adr_values.proofs.ExactCalls.{not_then}
 use Rattle.adr_schedule.specs.declared.fault.Cause.{Cause}
-use Rattle.adr_schedule.specs.Grammar.{AreGiven, IsAllowed}
+use Rattle.adr_schedule.specs.Grammar.{AreGiven, HasCallLine, IsAllowed}
 use Rattle.adr_values.specs.First.{first_of}
 use Rattle.adr_schedule.specs.Seen.{Seen, nothing_seen, is_bound, if_bound, if_inv_given, if_given, if_full, unless_bound, cause_after, with_controller, seen_after, IsFollowing}
 use Rattle.adr_model.specs.Member.{Member, Each}
 use Rattle.adr_model.specs.Write.{write_meant}
 use Rattle.adr_model.specs.Given.{IsWellGiven}
+use Rattle.adr_model.specs.Client.{IsWellAsked, call_meant}
 use Rattle.adr_model.specs.Store.{empty_state}
 use Rattle.adr_model.specs.Collect.{backup, adopt}
 use Rattle.adr_disk.specs.declared.memory.Mishap.TheVariants.{Fails, Stops}
@@ -26,7 +29,7 @@ use Rattle.adr_model.specs.Step.{gives, step}
 use Rattle.adr_model.specs.Convergence.{IsNewName, IsNewDsa, IsNewInv, IsUnbound, MayHappen, MayAllHappen}
 use Rattle.adr_model.proofs.Members.{member_of_either}
 use Rattle.adr_law_convergence.proofs.Found.{same_name_tests}
-use Rattle.adr_law_headline.proofs.Naming.{names_of, Stays, adopted_case, writes_stay, asks_stay, serves_stay, delivers_stay, collects_stay, upgrades_stay, backups_stay, snapshots_stay, restores_stay, rollbacks_stay, reports_stay, plans_stay, stops_stay, starts_stay, pull_stays, pulls_stay, rings_stay}
+use Rattle.adr_law_headline.proofs.Naming.{names_of, Stays, adopted_case, does_stay, asks_stay, serves_stay, delivers_stay, backups_stay, snapshots_stay, restores_stay, rollbacks_stay, reports_stay, plans_stay, stops_stay, starts_stay, pull_stays, pulls_stay, rings_stay}
 
 -- what is bound to names is among what lines bound
 abbrev AreAmong : {A : Type 0} → List (Name × A) → List Name → Type 0
@@ -213,7 +216,7 @@ inv_given seen w inv agrees = record {
 }
 
 -- a write whose values are given as a line gives them is one that a client can send
-pub well_given : (what : Write) → AreGiven what → IsWellGiven (write_meant what)
+well_given : (what : Write) → AreGiven what → IsWellGiven (write_meant what)
 well_given (writes.Add guid class parent text values) given = given
 well_given (writes.Modify guid values) given = (given.0, some_given values given.1)
 well_given (writes.Rename guid parent text) given = tt
@@ -221,13 +224,19 @@ well_given (writes.Delete guid) given = tt
 well_given (writes.Link from attr to) given = tt
 well_given (writes.Unlink from attr to) given = tt
 
+-- and so is a call that a line says
+pub well_asked : (what : Call) → HasCallLine what → IsWellAsked what
+well_asked (calls.Write what) given = well_given what given
+well_asked (calls.Collect lifetime) given = tt
+well_asked calls.Upgrade given = tt
+
 event_may : (seen : Seen) (w : World) (e : Event) → Agrees seen w → cause_after seen e ≡ None → IsAllowed e → Goes seen w e
 event_may seen w (events.Controller name dsa inv) agrees cause allowed =
     (is_new seen w name dsa inv agrees (new_controller seen name dsa inv cause), came seen w (on_new_disk name (empty_state dsa inv)) dsa inv _ agrees)
 event_may seen w (events.Time now) agrees cause allowed =
     (tt, record { controllers = agrees.controllers; dsas = agrees.dsas; invs = agrees.invs; requests = agrees.requests; replies = agrees.replies; images = agrees.images; snapshots = agrees.snapshots })
-event_may seen w (events.Write name what) agrees cause allowed =
-    (well_given what allowed.0, agrees_on seen w (step w (events.Write name what)).0 agrees (writes_stay w name (write_meant what)))
+event_may seen w (events.Calls name what) agrees cause allowed =
+    (well_asked what allowed.0, agrees_on seen w (step w (events.Calls name what)).0 agrees (does_stay w name (call_meant what w.time)))
 event_may seen w (events.Ask name partner max version bind) agrees cause allowed =
     let t = asks w name partner max version in let a = agrees_on seen w t.0 agrees (asks_stay w name partner max version) in (
       unbound w.requests seen.requests bind agrees.requests (new_request seen name partner bind max version cause),
@@ -243,8 +252,6 @@ event_may seen w (events.Pull name source max) agrees cause allowed = (tt, agree
 event_may seen w (events.Cycle name source max) agrees cause allowed = (tt, agrees_on seen w (step w (events.Cycle name source max)).0 agrees (pulls_stay reply_limit w name source max))
 event_may seen w (events.Ring name others rounds max) agrees cause allowed =
     (tt, agrees_on seen w (step w (events.Ring name others rounds max)).0 agrees (rings_stay w name others rounds max))
-event_may seen w (events.Collect name lifetime) agrees cause allowed = (tt, agrees_on seen w (step w (events.Collect name lifetime)).0 agrees (collects_stay w name lifetime))
-event_may seen w (events.Upgrade name) agrees cause allowed = (tt, agrees_on seen w (step w (events.Upgrade name)).0 agrees (upgrades_stay w name))
 event_may seen w (events.Revive name guid image parent text) agrees cause allowed = absurd allowed.0
 event_may seen w (events.Backup name bind) agrees cause allowed =
     let t = of_controller w name (nothing w) (λ r. backed_up w (backup r.safe)) in let a = agrees_on seen w t.0 agrees (backups_stay w name) in (

@@ -1,13 +1,11 @@
 -- Each call of a controller leaves every state in form.
-use Rattle.std.proofs.Common.{◌≡◌, ◌⊎◌, inl, inr, ⊎_elim, ℕ, List, [], ◌∷◌, ◌++◌, Bool, true, false, Option, Some, None, Result, Ok, Err, refl, sym, subst, fold, length, if◌then◌else◌}
+use Rattle.std.proofs.Common.{◌≡◌, ◌⊎◌, inl, inr, ⊎_elim, ℕ, List, [], ◌∷◌, ◌++◌, Bool, true, false, Option, Some, None, Result, Ok, Err, refl, sym, ap, subst, fold, length, if◌then◌else◌}
 use Rattle.adr_call.specs.declared.outcome.Outcome.{Outcome}
 use Rattle.adr_call.specs.declared.outcome.Outcome.TheVariants as outcomes
-use Rattle.adr_call.specs.declared.refusal.WriteRefusal.{WriteRefusal}
 use Rattle.adr_call.specs.declared.refusal.ServeRefusal.{ServeRefusal}
 use Rattle.adr_call.specs.declared.refusal.ServeRefusal.TheVariants as serves
 use Rattle.adr_call.specs.declared.refusal.TakeRefusal.{TakeRefusal}
 use Rattle.adr_call.specs.declared.refusal.TakeRefusal.TheVariants as takes
-use Rattle.adr_call.specs.declared.refusal.CollectRefusal.{CollectRefusal}
 use Rattle.adr_call.specs.declared.refusal.AdoptRefusal.{AdoptRefusal}
 use Rattle.adr_wire.specs.Ranges.{IsId, IsU32, IsU64}
 use Rattle.adr_model.specs.Member.{Member, Each}
@@ -15,6 +13,7 @@ use Rattle.adr_model.specs.Update.{Identifier, Update}
 use Rattle.adr_model.specs.Store.{Store, State, empty_state}
 use Rattle.adr_model.specs.Change.{Change, after}
 use Rattle.adr_model.specs.Serve.{Request, Reply, is_quarantined, ask, serve}
+use Rattle.adr_model.specs.Client.{Done, done}
 use Rattle.adr_model.specs.Write.{Write, write}
 use Rattle.adr_model.specs.Given.{IsWellGiven}
 use Rattle.adr_model.specs.Take.{take}
@@ -22,10 +21,12 @@ use Rattle.adr_model.specs.Collect.{collect, backup, adopt, quarantine}
 use Rattle.adr_model.specs.Lengths.{new_log, area_fits, change_fits}
 use Rattle.adr_model.specs.Refused.{serve_refused, take_refused, quarantined}
 use Rattle.adr_disk.specs.declared.memory.Plan.{Plan}
-use Rattle.adr_model.specs.Replica.{Pending, ToWrite, ToTake, ToCollect, ToQuarantine, Standing, Up, Down, Failed, Device, Replica, on_disk, on_new_disk, Book, begun, Settle, moved, moves_of_commit, moves_of_start, standing_after, commit_goes, start_goes, device_after_commit, device_after_start, device_settled}
-use Rattle.adr_model.specs.World.{Name, World, Snapshot, Gone, Sent, stays, nothing, bound_at, replica_at, with_replica, of_made, of_controller, committed, commit, quarantines, after_write, writes, after_collect, noted, asks, after_serve, served, serves_request, after_take, delivered, delivers, backed_up, adopts, of_image, put_back, with_plan, stops, starts}
+use Rattle.adr_model.specs.Replica.{Call, Pending, ToWrite, ToTake, ToCollect, ToQuarantine, Standing, Up, Down, Failed, Device, Replica, on_disk, on_new_disk, Book, begun, Settle, moved, moves_of_commit, moves_of_start, standing_after, commit_goes, start_goes, device_after_commit, device_after_start, device_settled}
+use Rattle.adr_model.specs.World.{Name, World, Snapshot, Gone, Sent, stays, nothing, bound_at, replica_at, with_replica, of_made, of_controller, committed, commit, quarantines, after_call, does, noted, asks, after_serve, served, serves_request, after_take, delivered, delivers, backed_up, adopts, of_image, put_back, with_plan, stops, starts}
 use Rattle.adr_model.proofs.Members.{member_of_either}
 use Rattle.adr_law_convergence.proofs.Found.{bound_member, in_place}
+use Rattle.adr_law_convergence.proofs.Calls.{in_change}
+use Rattle.adr_model.proofs.Calling.{done_changes}
 use Rattle.adr_law_convergence.proofs.Binding.{only_made}
 use Rattle.adr_law_convergence.proofs.Reached.{made_case, up_case, reached_case, within_case}
 use Rattle.adr_law_convergence.proofs.Moves.{settling, starting, committing}
@@ -86,9 +87,9 @@ module _ (P : Update → Type 0) (w : World) (is : IsWorldInForm P w) where
     quarantining : (outcome : Outcome) → InForm (quarantines w r outcome)
     quarantining outcome = commits (record { call = ToQuarantine; change = quarantine r.safe }) outcome (quarantined_in_form P r.safe (is.replicas r there).0)
 
-    wrote : (what : Write) → IsWellGiven what → IsTypedWrite what → Each P (written_by r.safe what w.time) → (t : Result Change WriteRefusal) → write r.safe what w.time ≡ t → InForm (after_write w r what t)
-    wrote what given typed new (Err x) e = is
-    wrote what given typed new (Ok c) e = commits (record { call = ToWrite what w.time; change = c }) (outcomes.Usn c.usn) (written_in_form P r.safe what w.time c (is.replicas r there).0 given typed is.time new e)
+    called : (call : Call) → ((c : Change) → (done r.safe call).1 ≡ Some c → IsInForm P (after r.safe c)) → (d : Done) → done r.safe call ≡ d → InForm (after_call w r call d)
+    called call new (told, None) e = is
+    called call new (told, Some c) e = commits (record { call = call; change = c }) told (new c (ap (λ (d : Done). d.1) e))
 
     took : (reply : Reply) → IsReplyInForm P reply → (t : Result Change TakeRefusal) → take r.safe reply ≡ t → InForm (after_take w r reply t)
     took reply form (Ok c) e = commits (record { call = ToTake reply; change = c }) (outcomes.Took (length reply.items) (length c.writes) c.usn) (taken_in_form P r.safe reply c (is.replicas r there).0 form e)
@@ -104,17 +105,13 @@ module _ (P : Update → Type 0) (w : World) (is : IsWorldInForm P w) where
     noting reply = record { time = is.time; replicas = is.replicas; requests = is.requests; replies = is.replies; images = is.images; snapshots = is.snapshots }
 
     answered_with : (q : Request) → IsRangedRequest q → (t : Result Reply ServeRefusal) → serve r.safe q w.time ≡ t → MakesInForm P (IsReplyInForm P) (after_serve w r t)
-    answered_with q ranged (Ok reply) e = (noting reply, only_made (IsReplyInForm P) reply (served_in_form P r.safe q w.time reply (is.replicas r there).0 ranged e))
+    answered_with q ranged (Ok reply) e = (noting reply, only_made (IsReplyInForm P) reply (served_in_form P r.safe q w.time reply (is.replicas r there).0 ranged is.time e))
     answered_with q ranged (Err (serves.RolledBack inv mine shown)) e = (quarantining (serve_refused (serves.RolledBack inv mine shown)), λ y n. absurd (cc))
     answered_with q ranged (Err _) e = (is, λ y n. absurd (cc))
 
     served_bound : (o : Option Request) → ((q : Request) → o ≡ Some q → IsRangedRequest q) → MakesInForm P (IsReplyInForm P) (served w r o)
     served_bound None all = nothing_made (IsReplyInForm P) outcomes.Absent
     served_bound (Some q) all = answered_with q (all q refl) (serve r.safe q w.time) refl
-
-    collected : (lifetime : ℕ) (t : Result Change CollectRefusal) → collect r.safe w.time lifetime ≡ t → InForm (after_collect w r lifetime t)
-    collected lifetime (Err x) e = is
-    collected lifetime (Ok c) e = commits (record { call = ToCollect w.time lifetime; change = c }) (outcomes.Removed (length c.removed)) (collected_in_form P r.safe w.time lifetime c (is.replicas r there).0 e)
 
     started_so : InForm (starts w r Down)
     started_so = moved_world (fold moved (w.book, r) (moves_of_start (start_goes r))) (standing_after r.standing (start_goes r)) (device_after_start r) (starting (IsInForm P) w.book r (is.replicas r there) (start_goes r))
@@ -130,8 +127,16 @@ module _ (P : Update → Type 0) (w : World) (is : IsWorldInForm P w) where
 
   -- ---- calls by name
 
-  pub writes_in_form : (name : Name) (what : Write) → IsWellGiven what → IsTypedWrite what → Each (λ r. Each P (written_by r.safe what w.time)) w.replicas → InForm (writes w name what)
-  writes_in_form name what given typed new = reached_case InForm w name (stays w) (λ x. is) (λ r. after_write w r what (write r.safe what w.time)) (λ r called up. wrote r called.there what given typed (new r called.there) (write r.safe what w.time) refl)
+  call_in_form : (name : Name) (call : Call) → ((r : Replica) → Member r w.replicas → (c : Change) → (done r.safe call).1 ≡ Some c → IsInForm P (after r.safe c)) → InForm (does w name call)
+  call_in_form name call new = reached_case InForm w name (stays w) (λ x. is) (λ r. after_call w r call (done r.safe call)) (λ r reached up. called r reached.there call (new r reached.there) (done r.safe call) refl)
+
+  pub writes_in_form : (name : Name) (what : Write) → IsWellGiven what → IsTypedWrite what → Each (λ r. Each P (written_by r.safe what w.time)) w.replicas → InForm (does w name (ToWrite what w.time))
+  writes_in_form name what given typed new = call_in_form name (ToWrite what w.time) (λ r there c e.
+      written_in_form P r.safe what w.time c (is.replicas r there).0 given typed is.time (new r there) (in_change (write r.safe what w.time) c (done_changes r.safe (ToWrite what w.time) c e)))
+
+  pub collects_in_form : (name : Name) (lifetime : ℕ) → InForm (does w name (ToCollect w.time lifetime))
+  collects_in_form name lifetime = call_in_form name (ToCollect w.time lifetime) (λ r there c e.
+      collected_in_form P r.safe w.time lifetime c (is.replicas r there).0 (in_change (collect r.safe w.time lifetime) c (done_changes r.safe (ToCollect w.time lifetime) c e)))
 
   pub asks_in_form : (name partner : Name) (max : ℕ) → IsU32 max → MakesInForm P IsRangedRequest (asks w name partner max 1)
   asks_in_form name partner max few =
@@ -146,9 +151,6 @@ module _ (P : Update → Type 0) (w : World) (is : IsWorldInForm P w) where
 
   pub delivers_in_form : (name : Name) (o : Option Reply) → ((reply : Reply) → o ≡ Some reply → IsReplyInForm P reply) → InForm (delivers w name o)
   delivers_in_form name o all = reached_case InForm w name (stays w) (λ x. is) (λ r. delivered w r o) (λ r called up. took_bound r called.there o all)
-
-  pub collects_in_form : (name : Name) (lifetime : ℕ) → InForm (of_controller w name (stays w) (λ r. after_collect w r lifetime (collect r.safe w.time lifetime)))
-  collects_in_form name lifetime = reached_case InForm w name (stays w) (λ x. is) (λ r. after_collect w r lifetime (collect r.safe w.time lifetime)) (λ r called up. collected r called.there lifetime (collect r.safe w.time lifetime) refl)
 
   pub backups_in_form : (name : Name) → MakesInForm P (IsImageInForm P) (of_controller w name (nothing w) (λ r. backed_up w (backup r.safe)))
   backups_in_form name = reached_case (MakesInForm P (IsImageInForm P)) w name (nothing w) (nothing_made (IsImageInForm P)) (λ r. backed_up w (backup r.safe)) (λ r called up. imaged_from r called.there (is_quarantined r.safe.mode))

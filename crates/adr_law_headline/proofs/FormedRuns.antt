@@ -4,6 +4,7 @@ use Rattle.std.specs.Prelude.{IfSome}
 use Rattle.adr_call.specs.Supported.{IsSupported}
 use Rattle.adr_call.specs.declared.answer.Answer.{Answer}
 use Rattle.adr_call.specs.declared.outcome.Outcome.TheVariants as outcomes
+use Rattle.adr_call.specs.declared.call.Call.TheVariants as calls
 use Rattle.adr_call.specs.declared.event.Event.{Event}
 use Rattle.adr_call.specs.declared.event.Event.TheVariants as events
 use Rattle.adr_wire.specs.Ranges.{IsU32}
@@ -15,7 +16,8 @@ use Rattle.adr_model.specs.Write.{Write, write_meant}
 use Rattle.adr_model.specs.Given.{IsWellGiven}
 use Rattle.adr_model.specs.Collect.{backup}
 use Rattle.adr_disk.specs.declared.memory.Mishap.TheVariants.{Fails, Stops}
-use Rattle.adr_model.specs.World.{World, Name, Snapshot, Sent, empty_world, nothing, bound, bound_at, replica_at, of_made, of_controller, writes, asks, serves_request, backed_up, reported}
+use Rattle.adr_model.specs.Replica.{ToWrite}
+use Rattle.adr_model.specs.World.{World, Name, Snapshot, Sent, empty_world, nothing, bound, bound_at, replica_at, of_made, of_controller, does, asks, serves_request, backed_up, reported}
 use Rattle.adr_model.specs.Cycles.{Pulled, pull_served, pull_asked, pull, and_then, pulls, cycle, reply_limit, pull_version}
 use Rattle.adr_model.specs.Rings.{Connection, ring, times, rings}
 use Rattle.adr_model.specs.Step.{ClientWrite, write_of, gives, step, after_lines}
@@ -105,13 +107,13 @@ module _ (P : Update → Type 0) where
   given_more w dsas invs is = record { time = is.time; replicas = is.replicas; requests = is.requests; replies = is.replies; images = is.images; snapshots = is.snapshots }
 
   module _ (Q : Write → Type 0) (keeps : AreKeptByWrites P Q) where
-    written : (w : World) → IsWorldInForm P w → (name : Name) (what : Write) → IsWellGiven what → IsTypedWrite what → Q what → IsWorldInForm P (writes w name what).0
+    written : (w : World) → IsWorldInForm P w → (name : Name) (what : Write) → IsWellGiven what → IsTypedWrite what → Q what → IsWorldInForm P (does w name (ToWrite what w.time)).0
     written w is name what given typed so = writes_in_form P w is name what given typed (λ r m. keeps r.safe what w.time (is.replicas r m).0.rows so)
 
     event_in_form : (w : World) (is : IsWorldInForm P w) (e : Event) → MayHappen w e → IsSupported e → IsTyped e × HasTypedNumbers e → WritesSo Q e → IsWorldInForm P (step w e).0
     event_in_form w is (events.Controller name dsa inv) may does typed so = comes_in_form P (gives w (dsa ∷ []) (inv ∷ [])) (given_more w (dsa ∷ []) (inv ∷ []) is) name dsa inv typed.0.0 typed.0.1
     event_in_form w is (events.Time now) may does typed so = record { time = typed.1; replicas = is.replicas; requests = is.requests; replies = is.replies; images = is.images; snapshots = is.snapshots }
-    event_in_form w is (events.Write name what) may does typed so = written w is name (write_meant what) may typed.0 so
+    event_in_form w is (events.Calls name (calls.Write what)) may does typed so = written w is name (write_meant what) may typed.0 so
     event_in_form w is (events.Ask name partner max version bind) may does typed so =
         subst (λ (v : ℕ). IsWorldInForm P (step w (events.Ask name partner max v bind)).0) (sym does) (bound_request (asks w name partner max 1) bind (asks_in_form P w is name partner max typed.1))
     event_in_form w is (events.Serve name request bind) may does typed so =
@@ -121,8 +123,8 @@ module _ (P : Update → Type 0) where
     event_in_form w is (events.Cycle name source max) may does typed so = pulls_in_form name source max typed.1 reply_limit w is
     event_in_form w is (events.Ring name others rounds max) may does typed so =
         amid_in_form (times rounds (ring name others)) max typed.1 w is (rings w name others rounds max).0 (behind_is_amid name others rounds max w)
-    event_in_form w is (events.Collect name lifetime) may does typed so = collects_in_form P w is name lifetime
-    event_in_form w is (events.Upgrade name) may does typed so = absurd does
+    event_in_form w is (events.Calls name (calls.Collect lifetime)) may does typed so = collects_in_form P w is name lifetime
+    event_in_form w is (events.Calls name calls.Upgrade) may does typed so = absurd does
     event_in_form w is (events.Revive name guid image parent text) may does typed so = absurd does
     event_in_form w is (events.Backup name bind) may does typed so = bound_image (of_controller w name (nothing w) (λ r. backed_up w (backup r.safe))) bind (backups_in_form P w is name)
     event_in_form w is (events.Restore name image inv) may does typed so = restores_in_form P (gives w [] (inv ∷ [])) (given_more w [] (inv ∷ []) is) name image inv typed.0

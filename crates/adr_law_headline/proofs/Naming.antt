@@ -1,30 +1,26 @@
 -- Lines leave who is there, by name, which identifiers were given and what is bound, but for those that say otherwise.
-use Rattle.std.proofs.Common.{◌≡◌, ◌∙◌, refl, sym, ap, ℕ, zero, suc, List, [], ◌∷◌, length, Bool, true, false, cond, map, Option, Some, None, Result, Ok, Err}
+use Rattle.std.proofs.Common.{◌≡◌, ◌∙◌, refl, sym, ap, ℕ, zero, suc, List, [], ◌∷◌, Bool, true, false, cond, map, Option, Some, None, Result, Ok, Err}
 use Rattle.std.specs.Str.{bytes_eq}
 use Rattle.adr_call.specs.declared.answer.Answer.{Answer}
 use Rattle.adr_call.specs.declared.outcome.Outcome.{Outcome}
 use Rattle.adr_call.specs.declared.outcome.Outcome.TheVariants as outcomes
 use Rattle.adr_call.specs.declared.refusal.Table.TheVariants.{Log}
-use Rattle.adr_call.specs.declared.refusal.WriteRefusal.{WriteRefusal}
 use Rattle.adr_call.specs.declared.refusal.ServeRefusal.{ServeRefusal}
 use Rattle.adr_call.specs.declared.refusal.ServeRefusal.TheVariants as serves
 use Rattle.adr_call.specs.declared.refusal.TakeRefusal.{TakeRefusal}
 use Rattle.adr_call.specs.declared.refusal.TakeRefusal.TheVariants as takes
-use Rattle.adr_call.specs.declared.refusal.CollectRefusal.{CollectRefusal}
-use Rattle.adr_call.specs.declared.refusal.UpgradeRefusal.{UpgradeRefusal}
 use Rattle.adr_call.specs.declared.refusal.AdoptRefusal.{AdoptRefusal}
 use Rattle.adr_model.specs.Store.{State, Store}
 use Rattle.adr_model.specs.Change.{Change}
 use Rattle.adr_model.specs.Lengths.{log_limit, new_log, area_fits, change_fits}
 use Rattle.adr_model.specs.Serve.{Request, Reply, serve}
-use Rattle.adr_model.specs.Write.{Write, write}
+use Rattle.adr_model.specs.Client.{Done, done}
 use Rattle.adr_model.specs.Take.{take}
-use Rattle.adr_model.specs.Collect.{quarantine, collect, backup}
-use Rattle.adr_model.specs.Upgrade.{upgrade}
+use Rattle.adr_model.specs.Collect.{quarantine, backup}
 use Rattle.adr_model.specs.Refused.{adopt_refused, full}
 use Rattle.adr_disk.specs.declared.memory.Plan.{Plan}
-use Rattle.adr_model.specs.Replica.{Pending, ToWrite, ToTake, ToCollect, ToUpgrade, ToQuarantine, Settle, Move, Standing, Up, Down, Failed, Device, Replica, on_new_disk, begun, moves_of_start, standing_after, outcome_after, start_goes, device_after_start, device_settled}
-use Rattle.adr_model.specs.World.{Name, Snapshot, World, Gone, Sent, stays, nothing, with_replica, committed, commit, writes, after_write, after_collect, after_upgrade, asks, after_serve, served, serves_request, after_take, delivered, delivers, backed_up, adopts, of_image, put_back, of_made, of_controller, replica_at, with_plan, after_moves, stops, starts}
+use Rattle.adr_model.specs.Replica.{Call, Pending, ToTake, ToQuarantine, Settle, Move, Standing, Up, Down, Failed, Device, Replica, on_new_disk, begun, moves_of_start, standing_after, outcome_after, start_goes, device_after_start, device_settled}
+use Rattle.adr_model.specs.World.{Name, Snapshot, World, Gone, Sent, stays, nothing, with_replica, committed, commit, after_call, does, asks, after_serve, served, serves_request, after_take, delivered, delivers, backed_up, adopts, of_image, put_back, of_made, of_controller, replica_at, with_plan, after_moves, stops, starts}
 use Rattle.adr_model.specs.Cycles.{Pulled, pull_served, pull_asked, pull, and_then, pulls, cycle, reply_limit, pull_version}
 use Rattle.adr_model.specs.Rings.{rings}
 use Rattle.adr_model.proofs.Ringing.{rings_so}
@@ -88,9 +84,9 @@ module _ (w : World) where
   commits r p o = within_case Kept w (change_fits r.device.safe_log r.safe.store p.change) (committed w r p o) (same w)
       (record { names = replacing_keeps_names w.replicas _; given = refl; requests = refl; replies = refl; images = refl; snapshots = refl })
 
-  wrote : (r : Replica) (what : Write) (t : Result Change WriteRefusal) → Kept (after_write w r what t)
-  wrote r what (Err x) = same w
-  wrote r what (Ok c) = commits r (record { call = ToWrite what w.time; change = c }) (outcomes.Usn c.usn)
+  called : (r : Replica) (call : Call) (d : Done) → Kept (after_call w r call d)
+  called r call (told, None) = same w
+  called r call (told, Some c) = commits r (record { call = call; change = c }) told
 
   taken : (r : Replica) (reply : Reply) (t : Result Change TakeRefusal) → Kept (after_take w r reply t)
   taken r reply (Ok c) = commits r (record { call = ToTake reply; change = c }) _
@@ -102,8 +98,8 @@ module _ (w : World) where
   answered r (Err (serves.RolledBack inv mine shown)) = commits r (record { call = ToQuarantine; change = quarantine r.safe }) _
   answered r (Err x) = same w
 
-  pub writes_stay : (name : Name) (what : Write) → Kept (writes w name what)
-  writes_stay name what = reached_case Kept w name (stays w) (λ o. same w) (λ r. after_write w r what (write r.safe what w.time)) (λ r called up. wrote r what (write r.safe what w.time))
+  pub does_stay : (name : Name) (call : Call) → Kept (does w name call)
+  does_stay name call = reached_case Kept w name (stays w) (λ o. same w) (λ r. after_call w r call (done r.safe call)) (λ r reached up. called r call (done r.safe call))
 
   pub asks_stay : (name partner : Name) (max version : ℕ) → KeptBy (asks w name partner max version)
   asks_stay name partner max version =
@@ -122,21 +118,6 @@ module _ (w : World) where
 
   pub delivers_stay : (name : Name) (p : Option Reply) → Kept (delivers w name p)
   delivers_stay name p = reached_case Kept w name (stays w) (λ o. same w) (λ r. delivered w r p) (λ r called up. delivered_stays r p)
-
-  pub collects_stay : (name : Name) (lifetime : ℕ) → Kept (of_controller w name (stays w) (λ r. after_collect w r lifetime (collect r.safe w.time lifetime)))
-  collects_stay name lifetime =
-      reached_case Kept w name (stays w) (λ o. same w) (λ r. after_collect w r lifetime (collect r.safe w.time lifetime)) (λ r called up. by r (collect r.safe w.time lifetime))
-    where
-      by : (r : Replica) (t : Result Change CollectRefusal) → Kept (after_collect w r lifetime t)
-      by r (Err x) = same w
-      by r (Ok c) = commits r (record { call = ToCollect w.time lifetime; change = c }) (outcomes.Removed (length c.removed))
-
-  pub upgrades_stay : (name : Name) → Kept (of_controller w name (stays w) (λ r. after_upgrade w r (upgrade r.safe)))
-  upgrades_stay name = reached_case Kept w name (stays w) (λ o. same w) (λ r. after_upgrade w r (upgrade r.safe)) (λ r called up. by r (upgrade r.safe))
-    where
-      by : (r : Replica) (t : Result Change UpgradeRefusal) → Kept (after_upgrade w r t)
-      by r (Err x) = same w
-      by r (Ok c) = commits r (record { call = ToUpgrade; change = c }) outcomes.Ok
 
   pub backups_stay : (name : Name) → KeptBy (of_controller w name (nothing w) (λ r. backed_up w (backup r.safe)))
   backups_stay name = reached_case KeptBy w name (nothing w) (λ o. same w) (λ r. backed_up w (backup r.safe)) (λ r called up. by (backup r.safe))

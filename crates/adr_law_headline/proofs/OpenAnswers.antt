@@ -15,24 +15,25 @@ use Rattle.adr_call.specs.declared.refusal.TakeRefusal.TheVariants as takes
 use Rattle.adr_call.specs.declared.refusal.CollectRefusal.{CollectRefusal}
 use Rattle.adr_call.specs.declared.refusal.UpgradeRefusal.{UpgradeRefusal}
 use Rattle.adr_call.specs.declared.refusal.AdoptRefusal.{AdoptRefusal}
-use Rattle.adr_call.specs.Verbs.{verb_of_report, verb_of_write, word_of}
+use Rattle.adr_call.specs.Verbs.{verb_of_call, verb_of_report, word_of}
 use Rattle.adr_disk.specs.declared.memory.Mishap.TheVariants.{Fails, Stops}
 use Rattle.adr_disk.specs.declared.memory.Plan.{Plan}
 use Rattle.adr_model.specs.Member.{Member, Each}
 use Rattle.adr_model.specs.Update.{Identifier}
-use Rattle.adr_model.specs.Store.{Store, State}
+use Rattle.adr_model.specs.Store.{Normal, Store, State}
 use Rattle.adr_model.specs.Change.{Change}
 use Rattle.adr_model.specs.Lengths.{new_log, area_fits, change_fits}
 use Rattle.adr_model.specs.Serve.{Request, Reply, serve}
-use Rattle.adr_model.specs.Write.{Write, Revive, write_meant, write}
+use Rattle.adr_model.specs.Client.{Done, call_meant, changed_over, collected, done, written}
+use Rattle.adr_model.specs.Write.{Revive, write}
 use Rattle.adr_model.specs.Take.{take}
 use Rattle.adr_model.specs.Collect.{collect, backup, adopt, quarantine}
 use Rattle.adr_model.specs.Upgrade.{upgrade}
 use Rattle.adr_model.specs.Refused.{serve_refused, take_refused}
-use Rattle.adr_model.specs.Replica.{ToWrite, ToTake, ToCollect, ToUpgrade, ToQuarantine, Went, Passed, Met, Pending, Standing, Up, Down, Failed, Replica, on_new_disk, begun, outcome_after, commit_goes, start_goes}
-use Rattle.adr_model.specs.World.{Name, World, Snapshot, Gone, Sent, answer, stays, nothing, bound_at, replica_at, with_replica, of_made, where_up, of_controller, of_image, committed, commit, after_write, writes, after_collect, after_upgrade, asks, after_serve, served, serves_request, after_take, delivered, delivers, backed_up, adopts, put_back, with_plan, stops, starts, reported}
+use Rattle.adr_model.specs.Replica.{Call, ToWrite, ToTake, ToCollect, ToUpgrade, ToQuarantine, Went, Passed, Met, Pending, Standing, Up, Down, Failed, Replica, on_new_disk, begun, outcome_after, commit_goes, start_goes}
+use Rattle.adr_model.specs.World.{Name, World, Snapshot, Gone, Sent, answer, stays, nothing, bound_at, replica_at, with_replica, of_made, where_up, of_controller, of_image, committed, commit, after_call, does, asks, after_serve, served, serves_request, after_take, delivered, delivers, backed_up, adopts, put_back, with_plan, stops, starts, reported}
 use Rattle.adr_model.specs.Cycles.{reply_limit, pull_version}
-use Rattle.adr_model.specs.Step.{gives, step, revival, stepped}
+use Rattle.adr_model.specs.Step.{gives, step, told}
 use Rattle.adr_model.specs.Sound.{IsSoundWorld}
 use Rattle.adr_model.specs.Convergence.{NoneRefused}
 use Rattle.adr_law_convergence.proofs.Found.{replica_found}
@@ -78,15 +79,36 @@ calls o is (Met place Fails) = refl
 commits : (w : World) (r : Replica) (p : Pending) (o : Outcome) → IsOpen o → Goes (commit w r p o)
 commits w r p o is = within_case Goes w (change_fits r.device.safe_log r.safe.store p.change) (committed w r p o) refl (calls o is (commit_goes r p))
 
+-- what is answered to a client's call
+module _ (s : State) (normal : s.mode ≡ Normal) where
+  done_openly : (call : Call) → IsOpen (done s call).0
+  done_openly (ToWrite what now) = by (write s what now) refl
+    where
+      by : (t : Result Change WriteRefusal) → write s what now ≡ t → IsOpen (written t).0
+      by (Err x) e = write_open s normal what now x e
+      by (Ok c) e = refl
+  done_openly (ToCollect now lifetime) = by (collect s now lifetime) refl
+    where
+      by : (t : Result Change CollectRefusal) → collect s now lifetime ≡ t → IsOpen (collected t).0
+      by (Err x) e = collect_open s normal now lifetime x e
+      by (Ok c) e = refl
+  done_openly ToUpgrade = by (upgrade s) refl
+    where
+      by : (t : Result Change UpgradeRefusal) → upgrade s ≡ t → IsOpen (changed_over t).0
+      by (Err x) e = upgrade_open s normal x e
+      by (Ok c) e = refl
+  done_openly (ToTake reply) = refl
+  done_openly ToQuarantine = refl
+
 -- ---- calls of controllers that are not quarantined
 
 module _ (w : World) (sound : IsSoundWorld w) where
-  writes_openly : (name : Name) (what : Write) → Goes (writes w name what)
-  writes_openly name what = reached Goes w name (stays w) refl refl refl (λ r. after_write w r what (write r.safe what w.time)) (λ r m. by r m (write r.safe what w.time) refl)
+  does_openly : (name : Name) (call : Call) → Goes (does w name call)
+  does_openly name call = reached Goes w name (stays w) refl refl refl (λ r. after_call w r call (done r.safe call)) (λ r m. called r call (done r.safe call) (done_openly r.safe (sound.normal r m) call))
     where
-      by : (r : Replica) → Member r w.replicas → (t : Result Change WriteRefusal) → write r.safe what w.time ≡ t → Goes (after_write w r what t)
-      by r m (Err x) e = write_open r.safe (sound.normal r m) what w.time x e
-      by r m (Ok c) e = commits w r (record { call = ToWrite what w.time; change = c }) (outcomes.Usn c.usn) refl
+      called : (r : Replica) (call : Call) (d : Done) → IsOpen d.0 → Goes (after_call w r call d)
+      called r call (told, None) is = is
+      called r call (told, Some c) is = commits w r (record { call = call; change = c }) told is
 
   asks_openly : (name partner : Name) (max version : ℕ) → Sends (asks w name partner max version)
   asks_openly name partner max version = made Sends w name (nothing w) refl _ (λ r m. made Sends w partner (nothing w) refl _ (λ p k. where_it_is_up Sends w name (nothing w) refl refl refl r.standing _ refl))
@@ -120,20 +142,6 @@ module _ (w : World) (sound : IsSoundWorld w) where
           by : (t : Result Change TakeRefusal) → take r.safe p ≡ t → Goes (after_take w r p t)
           by (Ok c) e = commits w r (record { call = ToTake p; change = c }) (outcomes.Took (length p.items) (length c.writes) c.usn) refl
           by (Err x) e = refused_reply r p x (take_open r.safe (sound.normal r m) p x e)
-
-  collects_openly : (name : Name) (lifetime : ℕ) → Goes (of_controller w name (stays w) (λ r. after_collect w r lifetime (collect r.safe w.time lifetime)))
-  collects_openly name lifetime = reached Goes w name (stays w) refl refl refl (λ r. after_collect w r lifetime (collect r.safe w.time lifetime)) (λ r m. by r m (collect r.safe w.time lifetime) refl)
-    where
-      by : (r : Replica) → Member r w.replicas → (t : Result Change CollectRefusal) → collect r.safe w.time lifetime ≡ t → Goes (after_collect w r lifetime t)
-      by r m (Err x) e = collect_open r.safe (sound.normal r m) w.time lifetime x e
-      by r m (Ok c) e = commits w r (record { call = ToCollect w.time lifetime; change = c }) (outcomes.Removed (length c.removed)) refl
-
-  upgrades_openly : (name : Name) → Goes (of_controller w name (stays w) (λ r. after_upgrade w r (upgrade r.safe)))
-  upgrades_openly name = reached Goes w name (stays w) refl refl refl (λ r. after_upgrade w r (upgrade r.safe)) (λ r m. by r m (upgrade r.safe) refl)
-    where
-      by : (r : Replica) → Member r w.replicas → (t : Result Change UpgradeRefusal) → upgrade r.safe ≡ t → Goes (after_upgrade w r t)
-      by r m (Err x) e = upgrade_open r.safe (sound.normal r m) x e
-      by r m (Ok c) e = commits w r (record { call = ToUpgrade; change = c }) outcomes.Ok refl
 
   backs_up_openly : (name : Name) → Sends (of_controller w name (nothing w) (λ r. backed_up w (backup r.safe)))
   backs_up_openly name = reached Sends w name (nothing w) refl refl refl (λ r. backed_up w (backup r.safe))
@@ -202,22 +210,20 @@ one verb name o is a (inl e) = subst (λ (b : Answer). IsOpen b.outcome) (sym e)
 one verb name o is a (inr m) = absurd m
 
 module _ (w : World) (sound : IsSoundWorld w) where
-  revives_openly : (name : Name) (guid : Identifier) (image : Name) (parent : Identifier) (text : List ℕ) (o : Option Store) → AreOpen (stepped w (events.Revive name guid image parent text) (revival name guid parent text o)).1
+  revives_openly : (name : Name) (guid : Identifier) (image : Name) (parent : Identifier) (text : List ℕ) (o : Option Store) → AreOpen (told (codes "revive") name (of_image w o (λ i. does w name (ToWrite (Revive i guid parent text) w.time)))).1
   revives_openly name guid image parent text None = one (codes "revive") name outcomes.Absent refl
-  revives_openly name guid image parent text (Some i) = one (codes "revive") name (writes w name (Revive i guid parent text)).1 (writes_openly w sound name (Revive i guid parent text))
+  revives_openly name guid image parent text (Some i) = one (codes "revive") name _ (does_openly w sound name (ToWrite (Revive i guid parent text) w.time))
 
   line_open : (e : Event) → AreOpen (step w e).1
   line_open (events.Controller name dsa inv) = one (codes "controller") name outcomes.Ok refl
   line_open (events.Time now) = λ a m. absurd m
-  line_open (events.Write name what) = one (word_of (verb_of_write what)) name (writes w name (write_meant what)).1 (writes_openly w sound name (write_meant what))
+  line_open (events.Calls name what) = one (word_of (verb_of_call what)) name _ (does_openly w sound name (call_meant what w.time))
   line_open (events.Ask name partner max version bind) = one (codes "ask") name (asks w name partner max version).1 (asks_openly w sound name partner max version)
   line_open (events.Serve name request bind) = one (codes "serve") name (serves_request w name (bound_at w.requests request)).1 (serves_openly w sound name (bound_at w.requests request))
   line_open (events.Deliver name reply) = one (codes "deliver") name (delivers w name (bound_at w.replies reply)).1 (delivers_openly w sound name (bound_at w.replies reply))
   line_open (events.Pull name source max) = (pull_so IsSoundWorld IsRequest IsReply IsOpen open_calls name source max w sound).1
   line_open (events.Cycle name source max) = (pulls_so IsSoundWorld IsRequest IsReply IsOpen open_calls name source max reply_limit w sound).1
   line_open (events.Ring name others rounds max) = (ring_so IsSoundWorld IsRequest IsReply IsOpen open_calls (λ n d v. refl) name others rounds max w sound).1
-  line_open (events.Collect name lifetime) = one (codes "collect") name _ (collects_openly w sound name lifetime)
-  line_open (events.Upgrade name) = one (codes "upgrade") name _ (upgrades_openly w sound name)
   line_open (events.Revive name guid image parent text) = revives_openly name guid image parent text (bound_at w.images image)
   line_open (events.Backup name bind) = one (codes "backup") name _ (backs_up_openly w sound name)
   line_open (events.Restore name image inv) = one (codes "restore") name _ (restores_openly (gives w [] (inv ∷ [])) name image inv)

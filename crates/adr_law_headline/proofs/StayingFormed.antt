@@ -113,8 +113,8 @@ module _ (P : Update → Type 0) where
         let a = of_filter (λ (y : Held). is_above_mark from s.store.rows y && is_unseen from q.vector y) s.store.rows h.0 k.0 in
         subst P (sym h.2) (each h.0.update (updated s.store.rows h.0 a.0))
 
-  pub served_in_form : (s : State) (q : Request) (now : ℕ) (r : Reply) → IsInForm P s → IsRangedRequest q → serve s q now ≡ Ok r → IsReplyInForm P r
-  served_in_form s q now r is ranged e = let t = served_in_range s q r now is.logged ranged e in record {
+  pub served_in_form : (s : State) (q : Request) (now : ℕ) (r : Reply) → IsInForm P s → IsRangedRequest q → IsU64 now → serve s q now ≡ Ok r → IsReplyInForm P r
+  served_in_form s q now r is ranged fits e = let t = served_in_range s q r now is.logged ranged fits e in record {
     spelled = t.0;
     ranged = t.1;
     rows = subst (λ (x : Reply). Each (λ (i : Item). Each P i.rows) x.items) (answered (serve_refusal s q) (reply_to s q now) r e).1 (sent_rows s q is.rows);

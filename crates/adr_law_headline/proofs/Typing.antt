@@ -6,6 +6,7 @@ use Rattle.std.proofs.lemmas.Bool.{and_parts}
 use Rattle.adr_call.specs.declared.write.Write.{Write}
 use Rattle.adr_call.specs.declared.write.Write.TheVariants.{Add, Modify, Rename, Delete, Link, Unlink}
 use Rattle.adr_call.specs.Supported.{IsSupported}
+use Rattle.adr_call.specs.declared.call.Call.TheVariants as calls
 use Rattle.adr_call.specs.declared.event.Event.{Event}
 use Rattle.adr_call.specs.declared.event.Event.TheVariants as events
 use Rattle.adr_values.specs.Assignments.{Given}
@@ -74,7 +75,7 @@ write_typed (Unlink from attr to) (of_from, (of_attr, (of_to, end))) = (of_from.
 pub event_typed : (e : Event) → IsAllowed e → IsTyped e
 unfolding tokens_behind
 event_typed (events.Controller name dsa inv) (line, (verb, (to, (of_dsa, (of_inv, end))))) = (of_dsa.1.0.0, of_inv.1.0.0)
-event_typed (events.Write name what) (line, (verb, (to, behind))) = write_typed what behind
+event_typed (events.Calls name (calls.Write what)) (line, (verb, (to, behind))) = write_typed what behind
 event_typed (events.Restore name image inv) (line, (verb, (to, (of_image, (of_inv, end))))) = of_inv.1.0.0
 event_typed (events.Install name dsa image inv) (line, (verb, (to, (of_dsa, (of_image, (of_inv, end)))))) = (of_dsa.1.0.0, of_inv.1.0.0)
 event_typed (events.Revive name guid image parent text) allowed = absurd allowed.0
@@ -124,7 +125,7 @@ write_whole (Unlink from attr to) (of_from, (of_attr, (of_to, end))) = (of_from.
 
 event_whole : (e : Event) → IsAllowed e → WritesSo IsWholeWrite e
 unfolding tokens_behind
-event_whole (events.Write name what) (line, (verb, (to, behind))) = write_whole what behind
+event_whole (events.Calls name (calls.Write what)) (line, (verb, (to, behind))) = write_whole what behind
 event_whole _ allowed = tt
 
 -- what may follow from the beginning on is whole

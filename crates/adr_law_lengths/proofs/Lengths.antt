@@ -10,12 +10,16 @@ use Rattle.adr_values.specs.declared.content.Value.{Value}
 use Rattle.adr_values.specs.declared.content.Value.TheVariants.{Text, Number, Flag, Octets, Ref}
 use Rattle.adr_values.specs.declared.content.Content.{Content}
 use Rattle.adr_values.specs.declared.content.Content.TheVariants.{Class, Name, Dead, Values}
-use Rattle.adr_values.specs.Vector.{Cursors}
+use Rattle.adr_values.specs.Vector.{Cursors, at}
+use Rattle.adr_values.specs.Dated.{with_moments}
+use Rattle.adr_values.proofs.Dated.{as_many}
 use Rattle.adr_wire.specs.Fields.{u16, u32, u64, i64, flag, octets, text}
 use Rattle.adr_wire.specs.Composites.{oid, stamp, value, content, Row, row, link_key, link_stamp, LinkItem, cursor, vector}
 use Rattle.adr_wire.specs.Ranges.{IsOid, IsStamp, IsValue, IsContent, IsRow, InTurn, IsRowAbove, IsObject, IsLink, IsCursor, IsCursors}
+use Rattle.adr_wire.specs.Timed.{Timed, dated, timed, IsTimed}
 use Rattle.adr_model.specs.Update.{Update, Holds}
 use Rattle.adr_model.specs.Serve.{value_length, content_length, item_length, vector_length}
+use Rattle.adr_model.specs.Lengths.{timed_length}
 use Rattle.adr_law_lengths.specs.Written.{update_of, object_item, link_item, object_bytes, link_bytes}
 
 -- ---- fields
@@ -112,3 +116,16 @@ cursors_long (c ∷ cs) all =
 pub vector_long : (v : Cursors) → IsCursors v → length (vector v) ≡ vector_length v
 unfolding u32
 vector_long v q = omega (arith, cursors_long v q.1)
+
+-- each with its moment, whatever that is
+dated_long : (t v : Cursors) → AllByRecursion IsCursor v → length (flat_map dated (with_moments t v)) ≡ 32 * length v
+unfolding u64
+dated_long t [] all = refl
+dated_long t (c ∷ cs) all =
+    let rest = dated_long t cs all.1 in
+    let here = all.0.0 in
+    omega (arith, length-append c.0 (u64 c.1 ++ (u64 (at t c.0))), length-append (dated (c, at t c.0)) (flat_map dated (with_moments t cs)))
+
+pub timed_long : (t : Timed) → IsTimed 2 t → length (timed 2 t) ≡ timed_length t.0
+unfolding u32
+timed_long t q = omega (arith, dated_long t.1 t.0 q.is.cursors.1, as_many t.1 t.0)

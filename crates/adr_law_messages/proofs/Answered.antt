@@ -1,6 +1,7 @@
 -- What a state of a log asks and answers has the form of its bytes, and a reply of the form is one that is taken.
-use Rattle.std.proofs.Common.{◌≡◌, ℕ, ◌<◌, ◌≤◌, Bool, true, false, leb, List, [], ◌∷◌, length, map, Option, Some, None, unwrap_or, Result, Ok, ◌==◌, cond, refl, sym, ap, subst, ◌∙◌, inl, inr, ⊎_elim, arith}
+use Rattle.std.proofs.Common.{◌≡◌, ℕ, ◌<◌, ◌≤◌, Bool, true, false, leb, List, [], ◌∷◌, length, map, Option, Some, None, unwrap_or, Result, Ok, ◌==◌, ◌&&◌, ◌^◌, cond, refl, sym, ap, subst, ◌∙◌, inl, inr, ⊎_elim, arith}
 use Rattle.std.specs.Bool.{then_some}
+use Rattle.std.specs.Prelude.{if◌then◌else◌, is_some}
 use Rattle.std.specs.BTreeMap.{is_at}
 use Rattle.std.specs.List.{AllByRecursion}
 use Rattle.std.specs.Option.{IfSome}
@@ -18,17 +19,18 @@ use Rattle.adr_values.proofs.Moments.{no_times}
 use Rattle.adr_wire.specs.Composites.{Row, is_ordered}
 use Rattle.adr_wire.specs.Optional.{IsIfThere}
 use Rattle.adr_wire.specs.Pieces.{Piece, OfRows, OfLink, IsPiece}
-use Rattle.adr_wire.specs.Ranges.{InTurn, IsCursors, IsCursor, IsId, IsMark, IsOid, IsRowAbove, IsU32}
+use Rattle.adr_wire.specs.Ranges.{InTurn, IsCursors, IsCursor, IsId, IsMark, IsOid, IsRowAbove, IsU32, IsU64}
+use Rattle.adr_wire.specs.Timed.{IsTimed}
 use Rattle.adr_law_lengths.specs.Written.{update_of}
 use Rattle.adr_model.specs.Change.{Item}
 use Rattle.adr_model.specs.Formed.{AreFormedRows}
 use Rattle.adr_model.specs.LocalLog.{IsOrdered}
 use Rattle.adr_model.specs.Member.{Each, Member}
 use Rattle.adr_model.specs.Place.{identifier}
-use Rattle.adr_model.specs.Serve.{Request, Reply, ask, begins_at, byte_limit, candidates, item_of, reply_to, serve_refusal, serve}
+use Rattle.adr_model.specs.Serve.{Request, Reply, ask, begins_at, byte_limit, candidates, item_of, reply_to, serve_refusal, serve, times_told}
 use Rattle.adr_model.specs.Spelled.{IsSpelledItem, IsSpelledReply, SayOfTheirKeys}
 use Rattle.adr_model.specs.Store.{Held, PartnerMark, State, kept_of, no_mark, updates_of}
-use Rattle.adr_model.specs.Take.{is_reserved_row}
+use Rattle.adr_model.specs.Take.{is_reserved_row, times_brought}
 use Rattle.adr_model.specs.Update.{Identifier, Key, RowOf, LinkOf, Update, deleted_attr, same_identifier, unit_of}
 use Rattle.adr_model.proofs.Members.{mapped_member, member_left}
 use Rattle.adr_law_knowledge.proofs.Refusing.{answered}
@@ -42,6 +44,7 @@ use Rattle.adr_law_calls.proofs.TakenFollow.{nothing_is_vector}
 use Rattle.adr_image.specs.Body.{Body}
 use Rattle.adr_image.specs.Changes.{HasBody, change_of, item_of as item_said, written_of}
 use Rattle.adr_image.specs.Stored.{IsSpelledRow}
+use Rattle.adr_image.proofs.WholeLaws.{number_small}
 use Rattle.adr_packet.specs.Parts.{IsItem, one_item}
 use Rattle.adr_packet.specs.Requests.{IsRequest}
 use Rattle.adr_packet.specs.Replies.{IsReply}
@@ -51,12 +54,11 @@ use Rattle.adr_law_recorded.specs.Ranged.{IsRangedItem, IsRangedReply, IsRangedR
 use Rattle.adr_law_recorded.proofs.Asked.{no_mark_in_range}
 use Rattle.adr_law_recorded.proofs.Bodied.{item_piece}
 use Rattle.adr_law_recorded.proofs.Served.{logged_says, served_in_range}
-use Rattle.adr_law_recorded.proofs.Taken.{no_times_brought}
 
 -- ---- what is asked
 
 schema_in_range : (s : State) → IsLogged s → IsU32 s.store.schema
-schema_in_range s logged = let is = logged.spelled.schema in omega (arith, is)
+schema_in_range s logged = number_small s.store.schema logged.spelled.schema
 
 pub asked_formed : (s : State) (partner : Identifier) (max : ℕ) → IsLogged s → IsId partner → 1 ≤ max → IsU32 max → IsRequest (ask s partner max 1)
 asked_formed s partner max logged id some few =
@@ -183,6 +185,11 @@ module _ (s : State) (q : Request) (now : ℕ) (logged : IsLogged s) (asked : Is
   last_formed true = (logged.formed.store.vector, logged.spelled.vector)
   last_formed false = tt
 
+  -- a reply of version 1 tells no times
+  none_told : (b : Bool) → (if b && (q.version == 2) then times_told s now else []) ≡ []
+  none_told true = ap (λ (n : ℕ). if n == 2 then times_told s now else []) asked.version
+  none_told false = refl
+
   reply_formed : IsReply (reply_to s q now)
   reply_formed = record {
     version = asked.version;
@@ -194,15 +201,15 @@ module _ (s : State) (q : Request) (now : ℕ) (logged : IsLogged s) (asked : Is
     schema = schema_in_range s logged;
     asked = asked.vector;
     last = last_formed (length (answer.sent s q now logged.formed says none) == length (candidates s.store.rows (begins_at s q) q.vector));
-    times = ranged.times;
+    times = none_told (length (answer.sent s q now logged.formed says none) == length (candidates s.store.rows (begins_at s q) q.vector));
     items = (ranged.few, each_in_turn None (reply_to s q now).items (item_formed s q now logged says none spelled ranged));
   }
 
-pub served_formed : (s : State) (q : Request) (r : Reply) (now : ℕ) → IsLogged s → IsRequest q → serve s q now ≡ Ok r → IsReply r
-served_formed s q r now logged asked e =
+pub served_formed : (s : State) (q : Request) (r : Reply) (now : ℕ) → IsLogged s → IsRequest q → now < 2 ^ 64 → serve s q now ≡ Ok r → IsReply r
+served_formed s q r now logged asked small e =
     let t = answered (serve_refusal s q) (reply_to s q now) r e in
     let fits : IsRangedRequest q = record { version = asked.version; mark = asked.mark; max = asked.max } in
-    let right = served_in_range s q (reply_to s q now) now logged fits (e ∙ ap (λ (x : Reply). served x) (sym t.1)) in
+    let right = served_in_range s q (reply_to s q now) now logged fits small (e ∙ ap (λ (x : Reply). served x) (sym t.1)) in
     subst IsReply t.1 (reply_formed s q now logged asked t.0 right.0 right.1)
   where
     served : Reply → Result Reply ServeRefusal
@@ -211,19 +218,22 @@ served_formed s q r now logged asked e =
 -- ---- what is taken
 
 abbrev only_written : Piece → Body
-only_written p = (1, (false, (None, ([], ([], ([], (1, p) ∷ []))))))
+only_written p = (1, (false, (1, (None, (([], []), ([], ([], (1, p) ∷ [])))))))
 
 -- an item is spelled, as the change is that writes it alone
 piece_spelled : (p : Piece) → IsPiece p → IsSpelledItem (item_said p)
-piece_spelled p q = ((change_spelled 0 1 (change_of 1 (only_written p)) has refl).items (written_of (1, p)) (inl refl)).0
+piece_spelled p q = ((change_spelled 1 0 1 (change_of (only_written p)) has refl).items (written_of (1, p)) (inl refl)).0
   where
     empty : IsCursors []
     empty = (nothing_is_vector, tt)
 
-    has : HasBody 0 1 (change_of 1 (only_written p))
+    timed : IsTimed 1 ([], [])
+    timed = record { is = record { cursors = empty; times = no_times []; moments = tt }; none = λ one. refl }
+
+    has : HasBody 1 0 1 (change_of (only_written p))
     has = record {
       body = only_written p;
-      in_range = (omega arith, (tt, (tt, (empty, (empty, ((omega arith, tt), (omega arith, ((((omega arith, omega arith), refl), q), tt))))))));
+      in_range = (omega arith, (tt, (refl, (tt, (timed, (empty, ((omega arith, tt), (omega arith, ((((omega arith, omega arith), refl), q), tt)))))))));
       says = refl;
     }
 
@@ -244,13 +254,20 @@ last_taken : (o : Option Cursors) → IsIfThere IsCursors o → IsVector (unwrap
 last_taken None q = (nothing_is_vector, tt)
 last_taken (Some v) q = (q.0, q.1)
 
+none_brought : (r : Reply) → r.times ≡ [] → times_brought r ≡ []
+none_brought r none = by (is_some r.last)
+  where
+    by : (b : Bool) → cond b r.times [] ≡ []
+    by true = none
+    by false = refl
+
 pub reply_taken : (r : Reply) → IsReply r → IsSpelledReply r × IsRangedReply r
 reply_taken r p =
     let items = from_turn None r.items p.items.1 in (
       record {
         to = ordered r.to p.to.1;
         last = (last_taken r.last p.last).0;
-        times = subst (AreTimesOf (unwrap_or r.last [])) (sym (no_times_brought r p.times)) (no_times (unwrap_or r.last []));
+        times = subst (AreTimesOf (unwrap_or r.last [])) (sym (none_brought r p.times)) (no_times (unwrap_or r.last []));
         items = λ i m. let q = items i m in subst IsSpelledItem (sym q.says) (piece_spelled q.piece q.in_range);
       },
       record {
@@ -258,7 +275,7 @@ reply_taken r p =
         inv = p.inv;
         to = p.to.0;
         last = (last_taken r.last p.last).1;
-        times = p.times;
+        times = subst (AllByRecursion (λ t. IsU64 t.1)) (sym p.times) tt;
         few = p.items.0;
         items = λ i m. let q = items i m in subst IsRangedItem (sym q.says) (piece_right q.piece q.in_range);
       },

@@ -1,5 +1,5 @@
 -- Messages of the states of a log have the forms in which they are sent, and a reply that was read is what is taken.
-use Rattle.std.specs.Prelude.{◌≡◌, ℕ, ◌≤◌, Ok}
+use Rattle.std.specs.Prelude.{◌≡◌, ℕ, ◌≤◌, ◌<◌, ◌^◌, Ok}
 use Rattle.adr_wire.specs.Ranges.{IsId, IsU32}
 use Rattle.adr_model.specs.Update.{Identifier}
 use Rattle.adr_model.specs.Store.{State}
@@ -16,7 +16,7 @@ AskedHasForm = (s : State) (partner : Identifier) (max : ℕ) → IsLogged s →
 
 -- what is answered to a request of the form has the form of a reply
 abbrev pub ServedHasForm : Type 0
-ServedHasForm = (s : State) (q : Request) (r : Reply) (now : ℕ) → IsLogged s → IsRequest q → serve s q now ≡ Ok r → IsReply r
+ServedHasForm = (s : State) (q : Request) (r : Reply) (now : ℕ) → IsLogged s → IsRequest q → now < 2 ^ 64 → serve s q now ≡ Ok r → IsReply r
 
 -- a reply of the form is one that is taken
 abbrev pub ReplyIsTaken : Type 0

@@ -31,6 +31,7 @@ use Rattle.adr_model.specs.LocalLog.{IsOrdered}
 use Rattle.adr_model.specs.Member.{Each, Member}
 use Rattle.adr_model.specs.Serve.{is_quarantined}
 use Rattle.adr_model.specs.Store.{Held, Mode, Normal, Quarantined, State}
+use Rattle.adr_model.specs.Lengths.{area_version}
 use Rattle.adr_model.specs.Take.{is_reserved_row}
 use Rattle.adr_model.specs.Update.{Key, RowOf, LinkOf, Said, Holds, IsPresent, Update, key_order, unit_of, deleted_attr}
 use Rattle.adr_model.proofs.Members.{member_flat}
@@ -40,6 +41,8 @@ use Rattle.adr_law_calls.specs.Taken.{AreBare}
 use Rattle.adr_image.specs.Body.{IsMarkIf, IsWrite, Write, one_name}
 use Rattle.adr_image.specs.Changes.{HasBody, item_of, mode_of_flag, written_of}
 use Rattle.adr_image.specs.Image.{Marked}
+use Rattle.adr_image.specs.Whole.{is_schema}
+use Rattle.adr_image.proofs.WholeLaws.{number_small}
 use Rattle.adr_image.specs.Stored.{IsSpelledRow}
 use Rattle.adr_image.proofs.Taking.{less_is, unchain}
 use Rattle.adr_image.proofs.Writing.{mapped_long}
@@ -337,7 +340,7 @@ writes_in_range s usn mode writes most few rows = record {
   schema = refl;
   mark = tt;
   joined = tt;
-  times = refl;
+  times = tt;
   purged = tt;
   removed = λ o m. absurd m;
   few_removed = omega arith;
@@ -363,27 +366,38 @@ mode_told : (m : Mode) → m ≡ mode_of_flag (is_quarantined m)
 mode_told Normal = refl
 mode_told Quarantined = refl
 
-pub has_body : (s : State) (c : Change) → CanFollow s c → Each (λ w. AreBare w.item.rows) c.writes → IsInRange s.store.schema c
-    → HasBody s.store.usn s.store.schema c
-has_body s c follows bare q =
+pub has_body : (s : State) (c : Change) → is_schema s.store.schema ≡ true → CanFollow s c → Each (λ w. AreBare w.item.rows) c.writes → IsInRange s.store.schema c
+    → HasBody area_version s.store.usn s.store.schema c
+has_body s c known follows bare q =
     let form = in_turn_spelled _ s.store.vector s.store.rows c.writes follows.goes_on.writes in
     let w = has_writes s.store.usn c.usn c.writes q.usn follows.goes_on.locals
     (λ w m. (form w m, bare w m, λ u n. q.rows u (member_flat (λ (x : Written). x.item.rows) c.writes w u m n))) in
     let long : length w.writes ≡ length c.writes = sym (mapped_long written_of w.writes) ∙ ap length w.says in
     let fits = q.few in
+    let number : is_schema c.schema ≡ true = subst (λ (n : ℕ). is_schema n ≡ true) (sym q.schema) known in
     record {
-      body = (c.usn, (is_quarantined c.mode, (c.mark, (c.joined, (c.purged, (c.removed, w.writes))))));
+      body = (c.usn, (is_quarantined c.mode, (c.schema, (c.mark, ((c.joined, c.times), (c.purged, (c.removed, w.writes)))))));
       in_range = (
         q.usn,
-        (tt, (mark_right c.mark follows.goes_on.mark q.mark, ((follows.goes_on.joined, q.joined), ((follows.goes_on.purged, q.purged), ((q.few_removed, removed_right None c.removed q.removed), (omega (arith, long, fits), w.in_range)))))),
+        (
+          tt,
+          (
+            (number_small c.schema number, number),
+            (
+              mark_right c.mark follows.goes_on.mark q.mark,
+              (
+                record { is = record { cursors = (follows.goes_on.joined, q.joined); times = follows.goes_on.times; moments = q.times }; none = λ one. absurd (cc) },
+                ((follows.goes_on.purged, q.purged), ((q.few_removed, removed_right None c.removed q.removed), (omega (arith, long, fits), w.in_range))),
+              ),
+            ),
+          ),
+        ),
       );
       says =
           ap (λ mode. let d : Change = record c { mode = mode } in d) (mode_told c.mode)
-          ∙ ap (λ schema. let d : Change = record c { mode = mode_of_flag (is_quarantined c.mode); schema = schema } in d) q.schema
-          ∙ ap (λ times. let d : Change = record c { mode = mode_of_flag (is_quarantined c.mode); schema = s.store.schema; times = times } in d) q.times
-          ∙ ap (λ writes. let d : Change = record c { mode = mode_of_flag (is_quarantined c.mode); schema = s.store.schema; times = []; writes = writes } in d) (sym w.says);
+          ∙ ap (λ writes. let d : Change = record c { mode = mode_of_flag (is_quarantined c.mode); writes = writes } in d) (sym w.says);
     }
 
 pub recorded : (s : State) (c : Change) → IsLogged s → CanFollow s c → Each (λ w. AreBare w.item.rows) c.writes
     → IsInRange s.store.schema c → MayBeRecorded s c
-recorded s c logged follows bare q = record { logged = logged; follows = follows; body = has_body s c follows bare q }
+recorded s c logged follows bare q = record { logged = logged; follows = follows; body = has_body s c logged.spelled.schema follows bare q }

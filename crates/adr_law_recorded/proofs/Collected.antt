@@ -120,7 +120,7 @@ module _ (s : State) (now lifetime : ℕ) (logged : IsLogged s) where
         schema = refl;
         mark = tt;
         joined = tt;
-        times = refl;
+        times = tt;
         purged = all_in_range (covering dead) (covering_in_range dead death_right);
         removed = name_right;
         few_removed = omega (arith, long, few);

@@ -1,14 +1,15 @@
 -- What a state of a log answers to a request in range is a reply in range, and of the form of one.
-use Rattle.std.proofs.Common.{◌≡◌, ℕ, ◌-◌, ◌≤◌, List, [], ◌∷◌, Bool, true, false, cond, ◌||◌, ◌==◌, None, Ok, refl, sym, ap, subst, length, arith}
-use Rattle.std.specs.Prelude.{if◌then◌else◌, IfSome}
+use Rattle.std.proofs.Common.{◌≡◌, ℕ, ◌-◌, ◌≤◌, ◌<◌, ◌^◌, List, [], ◌∷◌, Bool, true, false, cond, ◌||◌, ◌==◌, None, Ok, refl, sym, subst, length, arith}
+use Rattle.std.specs.Prelude.{if◌then◌else◌, IfSome, filter, not}
 use Rattle.std.specs.Bool.{then_some}
 use Rattle.std.specs.List.{AllByRecursion}
 use Rattle.std.proofs.lemmas.Bool.{or_parts, eqb-false}
 use Rattle.std.proofs.lemmas.List.{length-map}
 use Rattle.adr_values.specs.declared.stamp.LinkStamp.{LinkStamp}
 use Rattle.adr_values.specs.declared.stamp.Unit.{Unit as Named}
-use Rattle.adr_wire.specs.Ranges.{IsCursor, IsMark}
-use Rattle.adr_model.specs.Update.{Key, RowOf, LinkOf, Said, Holds, IsPresent, Update}
+use Rattle.adr_values.specs.Vector.{Cursors}
+use Rattle.adr_wire.specs.Ranges.{IsCursor, IsMark, IsU64}
+use Rattle.adr_model.specs.Update.{Identifier, Key, RowOf, LinkOf, Said, Holds, IsPresent, Update, same_identifier}
 use Rattle.adr_model.specs.Store.{State, updates_of}
 use Rattle.adr_model.specs.Change.{Item}
 use Rattle.adr_model.specs.Serve.{Request, Reply, item_of, item_length, candidates, byte_limit, first_items, times_told, reply_to, serve_refusal, serve}
@@ -17,6 +18,7 @@ use Rattle.adr_law_knowledge.proofs.Refusing.{answered}
 use Rattle.adr_law_calls.proofs.Rows.{held_as}
 use Rattle.adr_law_calls.proofs.Served as answer
 use Rattle.adr_image.specs.Stored.{IsSpelledRow}
+use Rattle.adr_image.proofs.Staying.{raised_moments}
 use Rattle.adr_records.specs.BodyLaws.{content_of_attr}
 use Rattle.adr_records.specs.Logged.{IsLogged}
 use Rattle.adr_law_recorded.specs.Ranged.{IsRangedItem, IsRangedReply, IsRangedRequest}
@@ -44,10 +46,28 @@ few_first most bytes (c ∷ cs) =
     by true is few = omega arith
     by false is few = let some = eqb-false most 0 (or_parts (most == 0) (bytes == 0) is).0 in omega (arith, few, some)
 
+-- ---- moments that are told
+
+passing_moments : (test : Identifier × ℕ → Bool) (ts : Cursors) → AllByRecursion (λ t. IsU64 t.1) ts → AllByRecursion (λ t. IsU64 t.1) (filter test ts)
+passing_moments test [] all = tt
+passing_moments test (t ∷ ts) all = by (test t) (passing_moments test ts all.1)
+  where
+    by : (b : Bool) → AllByRecursion (λ (x : Identifier × ℕ). IsU64 x.1) (filter test ts) → AllByRecursion (λ (x : Identifier × ℕ). IsU64 x.1) (cond b (t ∷ filter test ts) (filter test ts))
+    by true rest = (all.0, rest)
+    by false rest = rest
+
+told_ranged : (s : State) (now : ℕ) → now < 2 ^ 64 → AllByRecursion (λ t. IsU64 t.1) s.store.times → AllByRecursion (λ t. IsU64 t.1) (times_told s now)
+told_ranged s now fits all =
+    raised_moments (filter (λ (t : Identifier × ℕ). not (same_identifier t.0 s.inv)) s.store.times) s.inv (cond (s.store.usn == 0) 0 now) (passing_moments _ s.store.times all) (own (s.store.usn == 0))
+  where
+    own : (b : Bool) → IsU64 (cond b 0 now)
+    own true = omega arith
+    own false = fits
+
 -- ---- its ranges
 
 module _ (s : State) (q : Request) (now : ℕ) (logged : IsLogged s) (says : SayOfTheirKeys (updates_of s.store.rows)) (ranged : IsRangedRequest q)
-    (none : serve_refusal s q ≡ None) where
+    (fits : now < 2 ^ 64) (none : serve_refusal s q ≡ None) where
   abbrev sent : List (ℕ × Item)
   sent = answer.sent s q now logged.formed says none
 
@@ -68,9 +88,13 @@ module _ (s : State) (q : Request) (now : ℕ) (logged : IsLogged s) (says : Say
   last_in_range true = logged.spelled.vector
   last_in_range false = tt
 
-  none_told : (b : Bool) → (reply b).times ≡ []
-  none_told true = ap (λ (n : ℕ). if n == 2 then times_told s now else []) ranged.version
-  none_told false = refl
+  told_in_range : (b : Bool) → AllByRecursion (λ t. IsU64 t.1) (reply b).times
+  told_in_range true = by (q.version == 2)
+    where
+      by : (two : Bool) → AllByRecursion (λ (t : Identifier × ℕ). IsU64 t.1) (if two then times_told s now else [])
+      by true = told_ranged s now fits logged.spelled.times
+      by false = tt
+  told_in_range false = tt
 
   row_in_range : (unit : Named) → IsRangedItem (item_of (answer.unseen s q now logged.formed says none) unit)
   row_in_range unit u m =
@@ -83,7 +107,7 @@ module _ (s : State) (q : Request) (now : ℕ) (logged : IsLogged s) (says : Say
     inv = logged.inv;
     to = to_in_range b;
     last = last_in_range b;
-    times = none_told b;
+    times = told_in_range b;
     few = omega (
       arith,
       length-map sent (λ (c : ℕ × Item). c.1),
@@ -102,10 +126,10 @@ logged_says s logged u m =
     let h = held_as s.store.rows u m in
     subst (λ (v : Update). IsSaidOfKey v.key v.said) (sym h.2) (says_of_key h.0.update.key h.0.update.said h.0.update.stamp (logged.spelled.rows h.0 h.1))
 
-pub served_in_range : (s : State) (q : Request) (r : Reply) (now : ℕ) → IsLogged s → IsRangedRequest q → serve s q now ≡ Ok r
+pub served_in_range : (s : State) (q : Request) (r : Reply) (now : ℕ) → IsLogged s → IsRangedRequest q → now < 2 ^ 64 → serve s q now ≡ Ok r
     → IsSpelledReply r × IsRangedReply r
-served_in_range s q r now logged ranged e =
+served_in_range s q r now logged ranged fits e =
     let t = answered (serve_refusal s q) (reply_to s q now) r e in (
       answer.served_is_spelled s q r now logged.formed (logged_says s logged) e,
-      subst IsRangedReply t.1 (reply_in_range s q now logged (logged_says s logged) ranged t.0),
+      subst IsRangedReply t.1 (reply_in_range s q now logged (logged_says s logged) ranged fits t.0),
     )

@@ -1,12 +1,12 @@
 -- What a taken reply brings is in the ranges of a record, and so its change can be recorded.
-use Rattle.std.proofs.Common.{◌≡◌, ℕ, ◌+◌, ◌<◌, ◌≤◌, ◌^◌, Bool, true, false, cond, List, [], ◌∷◌, Option, Some, None, unwrap_or, refl, sym, subst, ◌∙◌, fold, length, length-append, arith, Ok}
+use Rattle.std.proofs.Common.{◌≡◌, ℕ, ◌+◌, ◌<◌, ◌≤◌, ◌^◌, Bool, true, false, cond, List, [], ◌∷◌, Option, Some, None, unwrap_or, refl, sym, subst, fold, length, length-append, arith, Ok}
 use Rattle.std.specs.Prelude.{is_some}
 use Rattle.std.specs.List.{AllByRecursion}
 use Rattle.std.specs.Option.{IfSome}
 use Rattle.adr_values.specs.Table.{Table}
 use Rattle.adr_values.specs.Numbered.{numbered}
 use Rattle.adr_values.specs.Vector.{Cursors}
-use Rattle.adr_wire.specs.Ranges.{IsId, IsMark, IsOid, IsCursor}
+use Rattle.adr_wire.specs.Ranges.{IsId, IsMark, IsOid, IsU64, IsCursor}
 use Rattle.adr_model.specs.Member.{Each}
 use Rattle.adr_model.specs.Update.{Identifier, Update}
 use Rattle.adr_model.specs.Store.{PartnerMark, State}
@@ -44,12 +44,12 @@ last_in_range : (o : Option Cursors) → IfSome o (AllByRecursion IsCursor)
 last_in_range None all = tt
 last_in_range (Some v) all = all
 
-pub no_times_brought : (r : Reply) → r.times ≡ [] → times_brought r ≡ []
-no_times_brought r none = by (is_some r.last)
+brought_in_range : (r : Reply) → AllByRecursion (λ t. IsU64 t.1) r.times → AllByRecursion (λ t. IsU64 t.1) (times_brought r)
+brought_in_range r all = by (is_some r.last)
   where
-    by : (b : Bool) → cond b r.times [] ≡ []
-    by true = none
-    by false = refl
+    by : (b : Bool) → AllByRecursion (λ (t : Identifier × ℕ). IsU64 t.1) (cond b r.times [])
+    by true = all
+    by false = tt
 
 pub taken_in_range : (s : State) (r : Reply) (c : Change) → IsRangedReply r → take s r ≡ Ok c → IsInRange s.store.schema c
 taken_in_range s r c ranged e =
@@ -61,7 +61,7 @@ taken_in_range s r c ranged e =
       mark = subst (λ m. IfSome m (λ (k : Identifier × PartnerMark). IsId k.0 × IsId k.1.inv × IsMark k.1.mark)) (sym brings.4)
           (ranged.source, ranged.inv, ranged.to);
       joined = subst (AllByRecursion IsCursor) (sym brings.2) (last_in_range r.last ranged.last);
-      times = brings.3 ∙ no_times_brought r ranged.times;
+      times = subst (AllByRecursion (λ t. IsU64 t.1)) (sym brings.3) (brought_in_range r ranged.times);
       purged = subst (AllByRecursion IsCursor) (sym brings.5) tt;
       removed = subst (λ (x : Change). Each IsOid x.removed) p.1 (λ o m. absurd m);
       few_removed = subst (λ (x : Change). length x.removed < 2 ^ 32) p.1 (omega arith);

@@ -1,20 +1,21 @@
 -- Changes whose fields are in the ranges of a record.
-use Rattle.std.specs.Prelude.{◌≡◌, ℕ, [], ◌<◌, ◌^◌, length, IfSome}
+use Rattle.std.specs.Prelude.{◌≡◌, ℕ, ◌<◌, ◌^◌, length, IfSome}
 use Rattle.std.specs.List.{AllByRecursion}
-use Rattle.adr_wire.specs.Ranges.{IsId, IsUsn0, IsMark, IsOid, IsCursor}
+use Rattle.adr_wire.specs.Ranges.{IsId, IsU64, IsUsn0, IsMark, IsOid, IsCursor}
 use Rattle.adr_model.specs.Member.{Each}
 use Rattle.adr_model.specs.Update.{Identifier, Update}
 use Rattle.adr_model.specs.Store.{PartnerMark}
 use Rattle.adr_model.specs.Change.{Change, updates_written}
 use Rattle.adr_image.specs.Stored.{IsSpelledRow}
 
--- what a change brings is in the ranges of a record behind a state with this number of a schema: a record tells no schema and no times
+-- what a change brings is in the ranges of a record behind a state with this number of a schema
 pub record IsInRange (number : ℕ) (c : Change) : Type 0 where
   pub usn : IsUsn0 c.usn
   pub schema : c.schema ≡ number
   pub mark : IfSome c.mark (λ (k : Identifier × PartnerMark). IsId k.0 × IsId k.1.inv × IsMark k.1.mark)
   pub joined : AllByRecursion IsCursor c.joined
-  pub times : c.times ≡ []
+  -- whose they are, the vector tells
+  pub times : AllByRecursion (λ t. IsU64 t.1) c.times
   pub purged : AllByRecursion IsCursor c.purged
   pub removed : Each IsOid c.removed
   pub few_removed : length c.removed < 2 ^ 32

@@ -35,7 +35,7 @@ RecordedIsLogged = (s : State) (c : Change) → MayBeRecorded s c → IsLogged (
 abbrev pub LoggedFits : Type 0
 LoggedFits = (s : State) → IsLogged s → IsOverfull s → ⊥
 
--- ---- what calls change: all but an upgrade, which no record tells
+-- ---- what calls change: all but an upgrade
 
 abbrev pub WrittenIsRecorded : Type 0
 WrittenIsRecorded =
@@ -60,4 +60,5 @@ AskedIsRanged = (s : State) (partner : Identifier) (max : ℕ) → IsLogged s �
 
 abbrev pub ServedIsRanged : Type 0
 ServedIsRanged =
-    (s : State) (q : Request) (r : Reply) (now : ℕ) → IsLogged s → IsRangedRequest q → serve s q now ≡ Ok r → IsSpelledReply r × IsRangedReply r
+    (s : State) (q : Request) (r : Reply) (now : ℕ) → IsLogged s → IsRangedRequest q → now < 2 ^ 64 → serve s q now ≡ Ok r
+    → IsSpelledReply r × IsRangedReply r

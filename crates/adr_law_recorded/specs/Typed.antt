@@ -5,6 +5,8 @@ use Rattle.std.specs.Str.{is_utf8}
 use Rattle.adr_values.specs.Assignments.{Given}
 use Rattle.adr_values.specs.declared.content.Value.{Value as Item}
 use Rattle.adr_values.specs.declared.content.Value.TheVariants.{Text, Number, Flag, Octets, Ref}
+use Rattle.adr_call.specs.declared.call.Call.{Call}
+use Rattle.adr_call.specs.declared.call.Call.TheVariants as calls
 use Rattle.adr_call.specs.declared.event.Event.{Event}
 use Rattle.adr_call.specs.declared.event.Event.TheVariants as events
 use Rattle.adr_wire.specs.Ranges.{IsId}
@@ -31,13 +33,18 @@ IsTypedWrite (AddLink from attr to) = IsId from × IsId to
 IsTypedWrite (RemoveLink from attr to) = IsId from × IsId to
 IsTypedWrite (Revive image guid parent text) = IsSpelled image × IsId guid × IsId parent × (is_utf8 text ≡ true)
 
+-- a client's call whose write is so
+abbrev pub IsTypedCall : Call → Type 0
+IsTypedCall (calls.Write what) = IsTypedWrite (write_meant what)
+IsTypedCall _ = Unit {0}
+
 -- an event whose write is so, or which gives identifiers that are; the image of a revival isn't the event's
 abbrev pub IsTyped : Event → Type 0
 IsTyped (events.Controller name dsa inv) = IsId dsa × IsId inv
 IsTyped (events.Restore name image inv) = IsId inv
 IsTyped (events.Install name dsa image inv) = IsId dsa × IsId inv
 IsTyped (events.Revive name guid image parent text) = IsId guid × IsId parent × (is_utf8 text ≡ true)
-IsTyped (events.Write name what) = IsTypedWrite (write_meant what)
+IsTyped (events.Calls name what) = IsTypedCall what
 IsTyped e = Unit {0}
 
 abbrev pub AreTyped : List Event → Type 0

@@ -4,29 +4,25 @@ use Rattle.adr_disk.specs.declared.memory.Crash.TheVariants.{Kept, Lost, Torn}
 use Rattle.adr_call.specs.declared.outcome.Outcome.{Outcome}
 use Rattle.adr_call.specs.declared.outcome.Outcome.TheVariants as outcomes
 use Rattle.adr_call.specs.declared.refusal.Table.TheVariants.{Log}
-use Rattle.adr_call.specs.declared.refusal.WriteRefusal.{WriteRefusal}
 use Rattle.adr_call.specs.declared.refusal.ServeRefusal.{ServeRefusal}
 use Rattle.adr_call.specs.declared.refusal.ServeRefusal.TheVariants as serves
 use Rattle.adr_call.specs.declared.refusal.TakeRefusal.{TakeRefusal}
 use Rattle.adr_call.specs.declared.refusal.TakeRefusal.TheVariants as takes
-use Rattle.adr_call.specs.declared.refusal.CollectRefusal.{CollectRefusal}
-use Rattle.adr_call.specs.declared.refusal.UpgradeRefusal.{UpgradeRefusal}
 use Rattle.adr_call.specs.declared.refusal.AdoptRefusal.{AdoptRefusal}
 use Rattle.adr_call.specs.declared.refusal.AdoptRefusal.TheVariants as adoptions
 use Rattle.adr_model.specs.Update.{Identifier}
 use Rattle.adr_model.specs.Store.{Quarantined, Store, State}
 use Rattle.adr_model.specs.Change.{Change}
 use Rattle.adr_model.specs.Serve.{Request, Reply, ask, serve}
-use Rattle.adr_model.specs.Write.{Write, write}
 use Rattle.adr_model.specs.Take.{take}
-use Rattle.adr_model.specs.Collect.{collect, backup, adopt, quarantine}
-use Rattle.adr_model.specs.Upgrade.{upgrade}
+use Rattle.adr_model.specs.Collect.{backup, adopt, quarantine}
 use Rattle.adr_model.specs.Lengths.{log_limit, new_log, area_fits, change_fits}
 use Rattle.adr_model.specs.Refused.{serve_refused, take_refused, adopt_refused, full}
 use Rattle.adr_disk.specs.declared.memory.Mishap.TheVariants.{Fails, Stops}
 use Rattle.adr_disk.specs.declared.memory.Plan.{Plan}
-use Rattle.adr_model.specs.Replica.{Pending, ToWrite, ToTake, ToCollect, ToUpgrade, ToQuarantine, Standing, Up, Down, Failed, Replica, on_disk, on_new_disk, Book, begun, Move, Begin, Settle, Forget, moved, Went, Passed, Met, moves_of_commit, moves_of_start, standing_after, outcome_after, Device, commit_goes, start_goes, device_after_commit, device_after_start, device_settled}
-use Rattle.adr_model.specs.World.{Name, World, Snapshot, Gone, Sent, stays, nothing, replica_at, with_replica, of_made, where_up, of_controller, within_log, committed, commit, writes, after_write, after_collect, after_upgrade, asks, after_serve, served, serves_request, after_take, delivered, delivers, backed_up, begins, adopts, of_image, put_back, with_plan, stops, started, starts}
+use Rattle.adr_model.specs.Client.{Done, changed_over, collected, done, written}
+use Rattle.adr_model.specs.Replica.{Call, Pending, ToWrite, ToTake, ToCollect, ToUpgrade, ToQuarantine, Standing, Up, Down, Failed, Replica, on_disk, on_new_disk, Book, begun, Move, Begin, Settle, Forget, moved, Went, Passed, Met, moves_of_commit, moves_of_start, standing_after, outcome_after, Device, commit_goes, start_goes, device_after_commit, device_after_start, device_settled}
+use Rattle.adr_model.specs.World.{Name, World, Snapshot, Gone, Sent, stays, nothing, replica_at, with_replica, of_made, where_up, of_controller, within_log, committed, commit, after_call, does, asks, after_serve, served, serves_request, after_take, delivered, delivers, backed_up, begins, adopts, of_image, put_back, with_plan, stops, started, starts}
 use Rattle.adr_law_rollback.specs.ShutOff.{RefusesAll, RestsAs, RestsIn, is_done}
 use Rattle.adr_law_rollback.proofs.Placing.{name_case, FoundAmong, found_named, replaced, spared, first_stays, rests_too}
 use Rattle.adr_law_rollback.proofs.Refusing.{refuses_all}
@@ -92,6 +88,17 @@ adoption_not_done : (x : AdoptRefusal) → is_done (adopt_refused x) ≡ false
 adoption_not_done adoptions.IdentifierUsed = refl
 adoption_not_done (adoptions.Full table limit) = refl
 
+-- a client's call makes no change, and no answer says that something was done
+abbrev IsUndone : Done → Type 0
+IsUndone d = (d.1 ≡ None) × (is_done d.0 ≡ false)
+
+call_refused : (s : State) → RefusesAll s → (call : Call) → IsUndone (done s call)
+call_refused s refuses (ToWrite what now) = subst (λ t. IsUndone (written t)) (sym (refuses.no_write what now)) (refl, refl)
+call_refused s refuses (ToCollect now lifetime) = subst (λ t. IsUndone (collected t)) (sym (refuses.no_collection now lifetime)) (refl, refl)
+call_refused s refuses ToUpgrade = subst (λ t. IsUndone (changed_over t)) (sym refuses.no_upgrade) (refl, refl)
+call_refused s refuses (ToTake reply) = (refl, refl)
+call_refused s refuses ToQuarantine = (refl, refl)
+
 -- ---- calls in a world where the controller of a name is shut off
 
 module _ (name : Name) (s : State) (closed : s.mode ≡ Quarantined) where
@@ -139,17 +146,9 @@ module _ (name : Name) (s : State) (closed : s.mode ≡ Quarantined) where
         abbrev put_back_by : Pending
         put_back_by = record { call = ToQuarantine; change = quarantine r.safe }
 
-        other_wrote : (what : Write) (t : Result Change WriteRefusal) → RestsIn s (after_write w r what t).0 name
-        other_wrote what (Err x) = i
-        other_wrote what (Ok c) = commits (record { call = ToWrite what w.time; change = c }) (outcomes.Usn c.usn)
-
-        other_collected : (lifetime : ℕ) (t : Result Change CollectRefusal) → RestsIn s (after_collect w r lifetime t).0 name
-        other_collected lifetime (Err x) = i
-        other_collected lifetime (Ok c) = commits (record { call = ToCollect w.time lifetime; change = c }) (outcomes.Removed (length c.removed))
-
-        other_upgraded : (t : Result Change UpgradeRefusal) → RestsIn s (after_upgrade w r t).0 name
-        other_upgraded (Err x) = i
-        other_upgraded (Ok c) = commits (record { call = ToUpgrade; change = c }) outcomes.Ok
+        other_called : (call : Call) (d : Done) → RestsIn s (after_call w r call d).0 name
+        other_called call (told, None) = i
+        other_called call (told, Some c) = commits (record { call = call; change = c }) told
 
         other_took : (reply : Reply) (t : Result Change TakeRefusal) → RestsIn s (after_take w r reply t).0 name
         other_took reply (Ok c) = commits (record { call = ToTake reply; change = c }) (outcomes.Took (length reply.items) (length c.writes) c.usn)
@@ -162,20 +161,14 @@ module _ (name : Name) (s : State) (closed : s.mode ≡ Quarantined) where
         other_served (Err x) = i
 
       -- a call of either
-      wrote : (what : Write) → Holds n (after_write w r what (write r.safe what w.time))
-      wrote what = name_case (Holds n (after_write w r what (write r.safe what w.time))) n name
-          (λ e. subst (λ t. Holds n (after_write w r what t)) (sym ((refuses e).no_write what w.time)) (i, λ f. refl))
-          (λ differ. (other_wrote differ what (write r.safe what w.time), λ e. absurd (differ e)))
-
-      collected : (lifetime : ℕ) → Holds n (after_collect w r lifetime (collect r.safe w.time lifetime))
-      collected lifetime = name_case (Holds n (after_collect w r lifetime (collect r.safe w.time lifetime))) n name
-          (λ e. subst (λ t. Holds n (after_collect w r lifetime t)) (sym ((refuses e).no_collection w.time lifetime)) (i, λ f. refl))
-          (λ differ. (other_collected differ lifetime (collect r.safe w.time lifetime), λ e. absurd (differ e)))
-
-      upgrades : Holds n (after_upgrade w r (upgrade r.safe))
-      upgrades = name_case (Holds n (after_upgrade w r (upgrade r.safe))) n name
-          (λ e. subst (λ t. Holds n (after_upgrade w r t)) (sym (refuses e).no_upgrade) (i, λ f. refl))
-          (λ differ. (other_upgraded differ (upgrade r.safe), λ e. absurd (differ e)))
+      called : (call : Call) → Holds n (after_call w r call (done r.safe call))
+      called call = name_case (Holds n (after_call w r call (done r.safe call))) n name
+          (λ e. own call (done r.safe call) (call_refused r.safe (refuses e) call))
+          (λ differ. (other_called differ call (done r.safe call), λ e. absurd (differ e)))
+        where
+          own : (call : Call) (d : Done) → IsUndone d → Holds n (after_call w r call d)
+          own call (told, None) is = (i, λ f. is.1)
+          own call (told, Some c) is = absurd (cc is.0)
 
       took : (reply : Reply) → Holds n (after_take w r reply (take r.safe reply))
       took reply = name_case (Holds n (after_take w r reply (take r.safe reply))) n name
@@ -224,14 +217,8 @@ module _ (name : Name) (s : State) (closed : s.mode ≡ Quarantined) where
       none_sent : (A : Type 0) (o : Outcome) → is_done o ≡ false → HoldsSent {A = A} n (nothing w o)
       none_sent A o is = (i, λ e. is)
 
-      pub writes_hold : (what : Write) → Holds n (writes w n what)
-      writes_hold what = plain (Holds n) (stays w) stay (λ r. after_write w r what (write r.safe what w.time)) (λ r found. wrote n r found what)
-
-      pub collects_hold : (lifetime : ℕ) → Holds n (of_controller w n (stays w) (λ r. after_collect w r lifetime (collect r.safe w.time lifetime)))
-      collects_hold lifetime = plain (Holds n) (stays w) stay (λ r. after_collect w r lifetime (collect r.safe w.time lifetime)) (λ r found. collected n r found lifetime)
-
-      pub upgrades_hold : Holds n (of_controller w n (stays w) (λ r. after_upgrade w r (upgrade r.safe)))
-      upgrades_hold = plain (Holds n) (stays w) stay (λ r. after_upgrade w r (upgrade r.safe)) (λ r found. upgrades n r found)
+      pub calls_hold : (call : Call) → Holds n (does w n call)
+      calls_hold call = plain (Holds n) (stays w) stay (λ r. after_call w r call (done r.safe call)) (λ r found. called n r found call)
 
       pub delivers_hold : (o : Option Reply) → Holds n (delivers w n o)
       delivers_hold o = plain (Holds n) (stays w) stay (λ r. delivered w r o) (λ r found. took_one n r found o)

@@ -1,5 +1,5 @@
 -- Behind every line that puts nothing back on its disk a controller that is shut off is so still, and has done nothing.
-use Rattle.std.proofs.Common.{◌≡◌, inl, inr, ℕ, List, [], ◌∷◌, false, Option, Some, None, refl}
+use Rattle.std.proofs.Common.{◌≡◌, inl, inr, ℕ, List, [], ◌∷◌, false, Option, Some, None, refl, codes}
 use Rattle.adr_call.specs.declared.answer.Answer.{Answer}
 use Rattle.adr_call.specs.declared.outcome.Outcome.{Outcome}
 use Rattle.adr_call.specs.declared.outcome.Outcome.TheVariants as outcomes
@@ -9,17 +9,18 @@ use Rattle.adr_call.specs.declared.event.Event.{Event}
 use Rattle.adr_call.specs.declared.event.Event.TheVariants as events
 use Rattle.adr_model.specs.Member.{Each}
 use Rattle.adr_model.specs.Store.{Quarantined, Store, State, empty_state}
-use Rattle.adr_model.specs.Write.{write_meant, Revive}
+use Rattle.adr_model.specs.Client.{call_meant}
+use Rattle.adr_model.specs.Write.{Revive}
 use Rattle.adr_model.specs.Collect.{backup}
 use Rattle.adr_disk.specs.declared.memory.Mishap.TheVariants.{Fails, Stops}
-use Rattle.adr_model.specs.Replica.{on_new_disk}
-use Rattle.adr_model.specs.World.{Name, World, Sent, answer, nothing, bound, bound_at, asks, serves_request, of_controller, backed_up, reported}
+use Rattle.adr_model.specs.Replica.{ToWrite, on_new_disk}
+use Rattle.adr_model.specs.World.{Name, World, Sent, answer, nothing, bound, bound_at, asks, serves_request, of_controller, of_image, does, backed_up, reported}
 use Rattle.adr_model.specs.Cycles.{reply_limit}
-use Rattle.adr_model.specs.Step.{gives, told_bound, revival, stepped, step, after_lines, answers}
+use Rattle.adr_model.specs.Step.{gives, told, told_bound, step, after_lines, answers}
 use Rattle.adr_model.proofs.Ringing.{rings_so}
 use Rattle.adr_law_rollback.specs.ShutOff.{RestsIn, is_done, DoesNothing, Spares, QuarantineHolds, QuarantineHoldsThroughout}
 use Rattle.adr_law_rollback.proofs.Placing.{first_stays}
-use Rattle.adr_law_rollback.proofs.Calls.{HoldsSent, writes_hold, collects_hold, upgrades_hold, delivers_hold, serves_hold, asks_hold, backs_up_hold, copied, copies_hold, plans_hold, stops_hold, starts_hold, reports_hold, installs_hold, restores_hold, rollbacks_hold}
+use Rattle.adr_law_rollback.proofs.Calls.{HoldsSent, calls_hold, delivers_hold, serves_hold, asks_hold, backs_up_hold, copied, copies_hold, plans_hold, stops_hold, starts_hold, reports_hold, installs_hold, restores_hold, rollbacks_hold}
 use Rattle.adr_law_rollback.proofs.Cycling.{silent, one_more, both_silent, Still, pull_still, pulls_still}
 
 -- a report says nothing of the kind
@@ -42,7 +43,7 @@ module _ (name : Name) (s : State) (closed : s.mode ≡ Quarantined) where
     pub step_still : (e : Event) → Spares name e → Behind (step w e)
     step_still (events.Controller n dsa inv) spares = ((i.0, first_stays w.replicas (on_new_disk n (empty_state dsa inv) ∷ []) i.0 name i.1, i.2), one _ n outcomes.Ok (λ e. refl))
     step_still (events.Time now) spares = (i, silent name)
-    step_still (events.Write n what) spares = let t = writes_hold name s closed w i n (write_meant what) in (t.0, one _ n _ t.1)
+    step_still (events.Calls n what) spares = let t = calls_hold name s closed w i n (call_meant what w.time) in (t.0, one _ n _ t.1)
     step_still (events.Ask n partner max version bind) spares =
         one_bound _ n (asks w n partner max version) (λ v q. record v { requests = bound v.requests bind q }) (λ v q j. j) (asks_hold name s closed w i n partner max version)
     step_still (events.Serve n request bind) spares =
@@ -54,13 +55,11 @@ module _ (name : Name) (s : State) (closed : s.mode ≡ Quarantined) where
     step_still (events.Ring n others rounds max) spares =
         rings_so (λ v. RestsIn s v name) (λ (a : Answer). a.name ≡ name → is_done a.outcome ≡ false) (λ v dest source most j. pulls_still name s closed dest source most reply_limit v j)
         n others rounds max (λ v d e own. refl) w i
-    step_still (events.Collect n lifetime) spares = let t = collects_hold name s closed w i n lifetime in (t.0, one _ n _ t.1)
-    step_still (events.Upgrade n) spares = let t = upgrades_hold name s closed w i n in (t.0, one _ n _ t.1)
     step_still (events.Revive n guid image parent text) spares = by (bound_at w.images image)
       where
-        by : (o : Option Store) → Behind (stepped w (events.Revive n guid image parent text) (revival n guid parent text o))
+        by : (o : Option Store) → Behind (told (codes "revive") n (of_image w o (λ i. does w n (ToWrite (Revive i guid parent text) w.time))))
         by None = (i, one _ n outcomes.Absent (λ e. refl))
-        by (Some image) = let t = writes_hold name s closed w i n (Revive image guid parent text) in (t.0, one _ n _ t.1)
+        by (Some image) = let t = calls_hold name s closed w i n (ToWrite (Revive image guid parent text) w.time) in (t.0, one _ n _ t.1)
     step_still (events.Backup n bind) spares =
         one_bound _ n (of_controller w n (nothing w) (λ r. backed_up w (backup r.safe))) (λ v image. record v { images = bound v.images bind image }) (λ v image j. j)
         (backs_up_hold name s closed w i n)

@@ -3,6 +3,7 @@ use Rattle.std.specs.Prelude.{◌≡◌, ◌≢◌, ◌⊎◌, ◌<◌, ◌≤�
 use Rattle.std.specs.List.{flat_map}
 use Rattle.adr_values.specs.declared.stamp.Oid.{Oid}
 use Rattle.adr_values.specs.Vector.{Cursors, at, at_most}
+use Rattle.adr_call.specs.declared.call.Call.TheVariants as calls
 use Rattle.adr_call.specs.declared.event.Event.{Event}
 use Rattle.adr_call.specs.declared.event.Event.TheVariants as events
 use Rattle.adr_call.specs.declared.answer.Answer.{Answer}
@@ -16,8 +17,8 @@ use Rattle.adr_model.specs.Directory.{directory}
 use Rattle.adr_model.specs.Store.{State, Store, updates_of, kept_of, mark_of}
 use Rattle.adr_model.specs.Serve.{Request, last_local, units_of}
 use Rattle.adr_model.specs.Change.{Written, Change}
-use Rattle.adr_model.specs.Write.{write_meant, items_written}
-use Rattle.adr_model.specs.Given.{IsWellGiven}
+use Rattle.adr_model.specs.Write.{items_written}
+use Rattle.adr_model.specs.Client.{IsWellAsked}
 use Rattle.adr_model.specs.Reflects.{knowledge_of, Reflects}
 use Rattle.adr_model.specs.Collect.{deaths_to_collect, collect}
 use Rattle.adr_model.specs.Replica.{Replica, Up}
@@ -47,7 +48,7 @@ abbrev pub MayHappen : World → Event → Type 0
 MayHappen w (events.Controller name dsa inv) = IsNewName w name × (IsNewDsa w dsa × IsNewInv w inv)
 MayHappen w (events.Install name dsa image inv) = IsNewName w name × (IsNewDsa w dsa × IsNewInv w inv)
 MayHappen w (events.Restore name image inv) = IsNewInv w inv
-MayHappen w (events.Write name what) = IsWellGiven (write_meant what)
+MayHappen w (events.Calls name what) = IsWellAsked what
 MayHappen w (events.Ask name partner max version bind) = IsUnbound w.requests bind
 MayHappen w (events.Serve name request bind) = IsUnbound w.replies bind
 MayHappen w (events.Backup name bind) = IsUnbound w.images bind
@@ -246,7 +247,7 @@ pub record AreDeathsCovered (w : World) (deaths : List (Oid × Update)) : Type 0
 
 -- a collection that is done removes what all cover, and a new controller comes while nothing was collected
 abbrev pub KeepsCovered : World → Event → Type 0
-KeepsCovered w (events.Collect name lifetime) =
+KeepsCovered w (events.Calls name (calls.Collect lifetime)) =
     Each (λ r. r.name ≡ name → r.standing ≡ Up → (c : Change) → collect r.safe w.time lifetime ≡ Ok c → AreDeathsCovered w (deaths_to_collect r.safe w.time lifetime)) w.replicas
 KeepsCovered w (events.Controller name dsa inv) = (s : Store) → IsStoreOf w s → s.purged ≡ []
 KeepsCovered w e = Unit {0}

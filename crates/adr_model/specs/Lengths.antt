@@ -1,5 +1,6 @@
 -- How long images and changes are as bytes, and where the log on a controller's disk ends.
 use Rattle.std.specs.Prelude.{ℕ, ◌+◌, ◌-◌, ◌*◌, [], Bool, false, not, ◌&&◌, ◌||◌, nat_lt, nat_le, length, fold, is_some, if◌then◌else◌}
+use Rattle.adr_values.specs.Vector.{Cursors}
 use Rattle.adr_model.specs.Update.{Key, RowOf, LinkOf}
 use Rattle.adr_model.specs.Live.{objects_of}
 use Rattle.adr_model.specs.Store.{Held, Store, State, empty_state, updates_of}
@@ -14,16 +15,20 @@ row_length h = by h.update.key
     by (RowOf o attr) = 46 + content_length h.update.said
     by (LinkOf l) = 135
 
--- the length of a store's image: a head and counts, two vectors, the marks, each object's name with a count, and the rows
+-- the length of a vector with its times in bytes: a count, and sixteen, eight and eight bytes for each cursor
+abbrev pub timed_length : Cursors → ℕ
+timed_length v = 4 + 32 * length v
+
+-- the length of a store's image: a head and counts, two vectors, the first with its times, the marks, each object's name with a count, and the rows
 abbrev pub image_length : Store → ℕ
 image_length s =
-    30 + vector_length s.vector + vector_length s.purged + 56 * length s.marks + 42 * length (objects_of (updates_of s.rows))
+    30 + timed_length s.vector + vector_length s.purged + 56 * length s.marks + 42 * length (objects_of (updates_of s.rows))
     + fold (λ n h. n + row_length h) 0 s.rows
 
--- the length of a change's record: a head and counts, a mark where there is one, two vectors, the removed objects, and the items
+-- the length of a change's record: a head with the number of the schema, and counts, a mark where there is one, two vectors, the first with its times, the removed objects, and the items
 abbrev pub change_length : Change → ℕ
 change_length c =
-    18 + (if is_some c.mark then 56 else 0) + vector_length c.joined + vector_length c.purged + 40 * length c.removed
+    22 + (if is_some c.mark then 56 else 0) + timed_length c.joined + vector_length c.purged + 40 * length c.removed
     + fold (λ n (w : Written). n + 8 + item_length w.item) 0 c.writes
 
 -- ---- logs
@@ -38,7 +43,7 @@ pub record Log : Type 0 where
 
 -- the version of the areas that are written
 abbrev pub area_version : ℕ
-area_version = 1
+area_version = 2
 
 -- the most bytes of a log: 8 GiB; and images and records are shorter than this
 abbrev pub log_limit : ℕ

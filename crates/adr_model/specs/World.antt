@@ -10,13 +10,10 @@ use Rattle.adr_call.specs.declared.directory.Entry.{Entry}
 use Rattle.adr_call.specs.declared.report.Report.{Report}
 use Rattle.adr_call.specs.declared.report.Report.TheVariants as reports
 use Rattle.adr_call.specs.declared.refusal.Table.TheVariants.{Log as log_table}
-use Rattle.adr_call.specs.declared.refusal.WriteRefusal.{WriteRefusal}
 use Rattle.adr_call.specs.declared.refusal.ServeRefusal.{ServeRefusal}
 use Rattle.adr_call.specs.declared.refusal.ServeRefusal.TheVariants as serves
 use Rattle.adr_call.specs.declared.refusal.TakeRefusal.{TakeRefusal}
 use Rattle.adr_call.specs.declared.refusal.TakeRefusal.TheVariants as takes
-use Rattle.adr_call.specs.declared.refusal.CollectRefusal.{CollectRefusal}
-use Rattle.adr_call.specs.declared.refusal.UpgradeRefusal.{UpgradeRefusal}
 use Rattle.adr_call.specs.declared.refusal.AdoptRefusal.{AdoptRefusal}
 use Rattle.adr_model.specs.Meta.{meta}
 use Rattle.adr_model.specs.Update.{Identifier, Update}
@@ -26,13 +23,13 @@ use Rattle.adr_values.specs.declared.mark.Mark.{Mark}
 use Rattle.adr_model.specs.Store.{PartnerMark, State, Store, updates_of}
 use Rattle.adr_model.specs.Change.{Change, Item}
 use Rattle.adr_model.specs.Serve.{Request, Reply, ask, serve}
-use Rattle.adr_model.specs.Write.{Write, write}
 use Rattle.adr_model.specs.Take.{take}
 use Rattle.adr_model.specs.Collect.{quarantine}
-use Rattle.adr_model.specs.Refused.{write_refused, serve_refused, take_refused, collect_refused, upgrade_refused, adopt_refused, quarantined, full}
+use Rattle.adr_model.specs.Refused.{serve_refused, take_refused, adopt_refused, quarantined, full}
 use Rattle.adr_model.specs.Lengths.{Log, log_limit, new_log, area_fits, change_fits}
 use Rattle.adr_disk.specs.declared.memory.Plan.{Plan}
-use Rattle.adr_model.specs.Replica.{ToWrite, ToTake, ToCollect, ToUpgrade, ToQuarantine, Pending, Standing, Up, Down, Failed, Replica, on_disk, on_new_disk, Book, begun, Move, Settle, Device, moved, moves_of_commit, moves_of_start, standing_after, outcome_after, commit_goes, start_goes, device_after_commit, device_after_start, device_settled}
+use Rattle.adr_model.specs.Client.{Done, done}
+use Rattle.adr_model.specs.Replica.{Call, ToTake, ToQuarantine, Pending, Standing, Up, Down, Failed, Replica, on_disk, on_new_disk, Book, begun, Move, Settle, Device, moved, moves_of_commit, moves_of_start, standing_after, outcome_after, commit_goes, start_goes, device_after_commit, device_after_start, device_settled}
 
 abbrev pub Name : Type 0
 Name = List ℕ
@@ -169,19 +166,14 @@ commit w r p outcome = within_log w (change_fits r.device.safe_log r.safe.store 
 abbrev pub quarantines : World → Replica → Outcome → Gone
 quarantines w r refused = commit w r (record { call = ToQuarantine; change = quarantine r.safe }) refused
 
-abbrev pub after_write : World → Replica → Write → Result Change WriteRefusal → Gone
-after_write w r what t =
-    unless_refused w write_refused (λ (change : Change). commit w r (record { call = ToWrite what w.time; change = change }) (outcomes.Usn change.usn)) t
+-- a client's call that makes a change commits it, and any other is answered alone
+abbrev pub after_call : World → Replica → Call → Done → Gone
+after_call w r call (told, None) = (w, told)
+after_call w r call (told, Some change) = commit w r (record { call = call; change = change }) told
 
-abbrev pub writes : World → Name → Write → Gone
-writes w name what = of_controller w name (stays w) (λ r. after_write w r what (write r.safe what w.time))
-
-abbrev pub after_collect : World → Replica → ℕ → Result Change CollectRefusal → Gone
-after_collect w r lifetime t =
-    unless_refused w collect_refused (λ (change : Change). commit w r (record { call = ToCollect w.time lifetime; change = change }) (outcomes.Removed (length change.removed))) t
-
-abbrev pub after_upgrade : World → Replica → Result Change UpgradeRefusal → Gone
-after_upgrade w r t = unless_refused w upgrade_refused (λ (change : Change). commit w r (record { call = ToUpgrade; change = change }) outcomes.Ok) t
+-- a controller does what a client calls for
+abbrev pub does : World → Name → Call → Gone
+does w name call = of_controller w name (stays w) (λ r. after_call w r call (done r.safe call))
 
 -- ---- messages
 

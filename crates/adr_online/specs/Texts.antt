@@ -1,4 +1,4 @@
--- The texts that a client sends: each line that isn't passed over says a deed.
+-- The texts that a client sends: each line that isn't passed over says a call.
 use Rattle.std.specs.Prelude.{if◌then◌else◌, ◌&&◌, ℕ, suc, nat_le, length, is_some, List, [], ◌∷◌, Option, Some, None}
 use Rattle.std.specs.Str.{is_utf8}
 use Rattle.adr_schedule.specs.Commands.{is_passed}
@@ -7,14 +7,14 @@ use Rattle.adr_schedule.specs.Limits.{text_limit}
 use Rattle.adr_schedule.specs.declared.fault.Cause.{Cause}
 use Rattle.adr_schedule.specs.declared.fault.Cause.TheVariants.{NoCommand, NotUtf8, TooLong}
 use Rattle.adr_schedule.specs.declared.fault.ScheduleFault.{ScheduleFault}
-use Rattle.adr_session.specs.Lines.{deed_said}
+use Rattle.adr_session.specs.Lines.{call_said}
 use Rattle.adr_session.specs.Talk.{line_limit}
 
 -- why a line can't be sent, if it can't
 abbrev pub cause_in : List ℕ → Option Cause
 cause_in line =
     if is_passed line then None
-    else if is_utf8 line then (if nat_le (length line) line_limit && is_some (deed_said line) then None else Some NoCommand)
+    else if is_utf8 line then (if nat_le (length line) line_limit && is_some (call_said line) then None else Some NoCommand)
     else Some NotUtf8
 
 abbrev pub bad_or : ℕ → Option Cause → Option ScheduleFault → Option ScheduleFault

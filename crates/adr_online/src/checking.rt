@@ -3,22 +3,22 @@
 ghost use Rattle.std.specs.Prelude.{◌≡◌, ◌≤◌, IfOk, is_some, length};
 ghost use Rattle.adr_schedule.specs.Lines.{lines_of};
 ghost use Rattle.adr_schedule.specs.Limits.{text_limit};
-ghost use Rattle.adr_session.specs.Lines.{deed_said};
+ghost use Rattle.adr_session.specs.Lines.{call_said};
 ghost use Rattle.adr_online.specs.Texts.{cause_in, fault_in, first_bad};
 
 use adr_schedule::{Cause, ScheduleFault, TEXT_LIMIT, first_line, is_passed};
-use adr_session::{LINE_LIMIT, deed_said};
+use adr_session::{LINE_LIMIT, call_said};
 use adr_token::utf8;
 use adr_values::NoMemory;
 use std::alloc::Global;
 
-/// Whether a line says a write or a collection.
-fn says_deed(alloc: Global, line: &[u8]) -> Result<bool, NoMemory>
-    ensures { IfOk result (λ says. says ≡ is_some (deed_said line.now)) }
+/// Whether a line says what a client has a controller do.
+fn says_call(alloc: Global, line: &[u8]) -> Result<bool, NoMemory>
+    ensures { IfOk result (λ says. says ≡ is_some (call_said line.now)) }
 {
-    match deed_said(alloc, line)? {
-        Some(deed) => {
-            drop(deed);
+    match call_said(alloc, line)? {
+        Some(call) => {
+            drop(call);
             Ok(true)
         }
         None => Ok(false),
@@ -38,7 +38,7 @@ fn cause_in(alloc: Global, line: &[u8]) -> Result<Option<Cause>, NoMemory>
     if line.len() > LINE_LIMIT {
         return Ok(Some(Cause::NoCommand));
     }
-    if says_deed(alloc, line)? {
+    if says_call(alloc, line)? {
         return Ok(None);
     }
     Ok(Some(Cause::NoCommand))

@@ -11,7 +11,7 @@ use crate::NoMemory;
 use crate::new_object::row;
 use adr_state::{Change, Held, Item, Key, Mode, State, Update, Written};
 use adr_update::root;
-use adr_values::{Birth, Content, Guid, LinkStamp, Oid, Stamp, Unit, Vector};
+use adr_values::{Birth, Content, Guid, LinkStamp, Oid, Stamp, Times, Unit, Vector};
 use std::alloc::Global;
 
 /// The live object of a GUID. A write of a GUID that has none is refused.
@@ -136,6 +136,7 @@ pub fn own_change(alloc: Global, state: &State, item: Item) -> Result<Change, No
         state.schema(),
         None,
         Vector::new(alloc),
+        Times::new(alloc),
         Vector::new(alloc),
         Vec::new(alloc),
         writes,

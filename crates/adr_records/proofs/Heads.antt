@@ -8,6 +8,7 @@ use Rattle.adr_values.specs.Vector.{Cursors, at, cursor_limit, raised}
 use Rattle.adr_values.proofs.Placing.{raised_seen}
 use Rattle.adr_wire.specs.declared.refusal.Malformed.{Malformed}
 use Rattle.adr_wire.specs.Reading.{Names, Read, Reading, Refuses, Rest, Tells, TellsAs, ◌>>=◌, then_at}
+use Rattle.adr_wire.specs.Ranges.{IsU16}
 use Rattle.adr_wire.specs.Spelling.{AreBytes}
 use Rattle.adr_wire.proofs.Combining.{from}
 use Rattle.adr_wire.proofs.Loops.{names_refuses, refuses_is, refuses_then}
@@ -60,44 +61,50 @@ module _ (bytes : List ℕ) (place : ℕ) (are : AreBytes bytes) where
       (told ∙ ap (λ (z : Rest). let x : Read (ℕ × ℕ) = Ok (p, z) in x) is.0, is.1)
   sized_told (Err e) rest there told = (told, tt)
 
+-- the version that was read has two bytes
+pub sized_version : (bytes : List ℕ) (place : ℕ) (are : AreBytes bytes) (p : ℕ × ℕ) (rest : Rest) → sized_at (from place (drop place bytes)) ≡ Ok (p, rest) → IsU16 p.0
+sized_version bytes place are p rest read = (sized_spelled.only place (drop place bytes) p rest (dropped_bytes bytes place are) read).in_range.0.0
+
 -- ---- its image
 
-module _ (inv : Identifier) (n : ℕ) (rest : Rest) where
-  abbrev testing : Store × Rest → Read Store
+module _ (version : ℕ) (inv : Identifier) (n : ℕ) (rest : Rest) where
+  abbrev pub testing : Store × Rest → Read Store
   testing x = cond (is_own inv x.0) (Ok x) (Err rest.place)
 
-  pub own_refused : (e : Failure Malformed) → Refuses e (framed_at image_at n rest) → Refuses e (own_image_at inv n rest)
+  pub own_refused : (e : Failure Malformed) → Refuses e (framed_at (image_at version) n rest) → Refuses e (own_image_at version inv n rest)
   unfolding own_image_at
-  own_refused e h = refuses_then e (framed_at image_at n rest) testing h
+  own_refused e h = refuses_then e (framed_at (image_at version) n rest) testing h
 
-  pub own_differs : (s : Store) (r : Rest) → framed_at image_at n rest ≡ Ok (s, r) → (at s.vector inv ≡ s.usn → ⊥) → own_image_at inv n rest ≡ Err rest.place
+  pub own_differs : (s : Store) (r : Rest) → framed_at (image_at version) n rest ≡ Ok (s, r) → (at s.vector inv ≡ s.usn → ⊥) → own_image_at version inv n rest ≡ Err rest.place
   unfolding own_image_at
   own_differs s r h other =
       ap (λ (z : Read Store). z >>= testing) h ∙ ap (λ (b : Bool). cond b (let v : Read Store = Ok (s, r) in v) (Err rest.place)) (ne_eqb (at s.vector inv) s.usn other)
 
-  pub own_read : (s : Store) (r : Rest) → framed_at image_at n rest ≡ Ok (s, r) → at s.vector inv ≡ s.usn → own_image_at inv n rest ≡ Ok (s, r)
+  pub own_read : (s : Store) (r : Rest) → framed_at (image_at version) n rest ≡ Ok (s, r) → at s.vector inv ≡ s.usn → own_image_at version inv n rest ≡ Ok (s, r)
   unfolding own_image_at
   own_read s r h same =
       ap (λ (z : Read Store). z >>= testing) h ∙ ap (λ (b : Bool). cond b (let v : Read Store = Ok (s, r) in v) (Err rest.place)) (eq-eqb (at s.vector inv) s.usn same)
 
 -- what is read is an image whose own cursor is its USN
-pub own_image_is : (inv : Identifier) (n place : ℕ) (bytes : List ℕ) (s : Store) (rest : Rest) → AreBytes bytes → own_image_at inv n (from place (drop place bytes)) ≡ Ok (s, rest) → IsOwn inv n s
-own_image_is inv n place bytes s rest are read = ((own_spelled inv n).only place (drop place bytes) s rest (dropped_bytes bytes place are) read).in_range
+pub own_image_is : (version : ℕ) → IsU16 version → (inv : Identifier) (n place : ℕ) (bytes : List ℕ) (s : Store) (rest : Rest) → AreBytes bytes → own_image_at version inv n (from place (drop place bytes)) ≡ Ok (s, rest) → IsOwn inv s
+own_image_is version fits inv n place bytes s rest are read =
+    let own = ((own_spelled version fits inv n).only place (drop place bytes) s rest (dropped_bytes bytes place are) read).in_range in
+    (own.0.0.0, own.1)
 
-own_raised : (inv : Identifier) (n : ℕ) (s : Store) → IsOwn inv n s → raised s.vector inv s.usn ≡ s.vector
-own_raised inv n s own =
+own_raised : (inv : Identifier) (s : Store) → IsOwn inv s → raised s.vector inv s.usn ≡ s.vector
+own_raised inv s own =
     let same = eqb-true (at s.vector inv) s.usn own.1 in
     sym (raised_seen s.vector inv s.usn (omega (arith, same)))
 
-pub own_woken : (o : Ids) (n : ℕ) (s : Store) → IsOwn o.1 n s → woken s o.0 o.1 ≡ state_of o s
-own_woken o n s own =
+pub own_woken : (o : Ids) (s : Store) → IsOwn o.1 s → woken s o.0 o.1 ≡ state_of o s
+own_woken o s own =
     ap (λ (v : Cursors). let t : State = record { dsa = o.0; inv = o.1; mode = Normal; store = record { schema = s.schema; usn = s.usn; rows = s.rows; vector = v; times = s.times; purged = s.purged; marks = s.marks } } in t)
-    (own_raised o.1 n s own)
+    (own_raised o.1 s own)
 
-pub own_fits : (inv : Identifier) (n : ℕ) (s : Store) → IsOwn inv n s → cursor_limit < length (raised s.vector inv s.usn) → ⊥
-own_fits inv n s own many =
-    let few = own.0.0.0.vector.few in
-    let same = ap (λ (v : Cursors). length v) (own_raised inv n s own) in
+pub own_fits : (inv : Identifier) (s : Store) → IsOwn inv s → cursor_limit < length (raised s.vector inv s.usn) → ⊥
+own_fits inv s own many =
+    let few = own.0.0.vector.few in
+    let same = ap (λ (v : Cursors). length v) (own_raised inv s own) in
     omega (arith, few, same, many)
 
 -- ---- the whole
@@ -114,12 +121,12 @@ then_second {A} {B} e a b rest mid x p h =
 
 module _ (o : Ids) (r0 : Rest) where
   abbrev image_behind : ℕ × ℕ → Rest → Read Store
-  image_behind p = own_image_at o.1 p.1
+  image_behind p = own_image_at p.0 o.1 p.1
 
   abbrev as_began : ((ℕ × ℕ) × Store) × Rest → Read (Began State)
   as_began x = Ok (began x.0.0.0 (state_of o x.0.1), x.1)
 
-  pub area_there : (r1 r2 : Rest) (p : ℕ × ℕ) (s : Store) → sized_at r0 ≡ Ok (p, r1) → own_image_at o.1 p.1 r1 ≡ Ok (s, r2) → area_at o r0 ≡ Ok (began p.0 (state_of o s), r2)
+  pub area_there : (r1 r2 : Rest) (p : ℕ × ℕ) (s : Store) → sized_at r0 ≡ Ok (p, r1) → own_image_at p.0 o.1 p.1 r1 ≡ Ok (s, r2) → area_at o r0 ≡ Ok (began p.0 (state_of o s), r2)
   unfolding area_at
   area_there r1 r2 p s a b = ap (λ (r : Read ((ℕ × ℕ) × Store)). r >>= as_began) (then_ok sized_at image_behind r0 r1 r2 p s a b)
 
@@ -127,6 +134,6 @@ module _ (o : Ids) (r0 : Rest) where
   unfolding area_at
   no_size e h = refuses_then e (then_at sized_at image_behind r0) as_began (then_first e sized_at image_behind r0 (names_refuses e (sized_at r0) h))
 
-  pub no_image : (e : Failure Malformed) (r1 : Rest) (p : ℕ × ℕ) → sized_at r0 ≡ Ok (p, r1) → Refuses e (own_image_at o.1 p.1 r1) → Refuses e (area_at o r0)
+  pub no_image : (e : Failure Malformed) (r1 : Rest) (p : ℕ × ℕ) → sized_at r0 ≡ Ok (p, r1) → Refuses e (own_image_at p.0 o.1 p.1 r1) → Refuses e (area_at o r0)
   unfolding area_at
   no_image e r1 p a h = refuses_then e (then_at sized_at image_behind r0) as_began (then_second e sized_at image_behind r0 r1 p a h)

@@ -13,7 +13,6 @@ use Rattle.adr_values.specs.declared.stamp.Unit.TheVariants.{Object}
 use Rattle.adr_values.specs.contracts.stamp.OidOrd.TheImpl.Laws.{total-law as objects_total}
 use Rattle.adr_values.specs.declared.content.Content.{Content}
 use Rattle.adr_values.specs.declared.content.Content.TheVariants.{Class, Name, Dead, Values}
-use Rattle.adr_values.proofs.Moments.{no_times}
 use Rattle.adr_wire.specs.Composites.{Row}
 use Rattle.adr_wire.specs.Pieces.{Piece, OfRows, OfLink, IsPiece}
 use Rattle.adr_wire.specs.Ranges.{InTurn, IsContent, IsRowAbove}
@@ -27,17 +26,19 @@ use Rattle.adr_model.specs.Member.{Each, Member}
 use Rattle.adr_model.specs.Store.{State}
 use Rattle.adr_model.specs.Update.{Key, RowOf, LinkOf, IsPresent, Update, key_order, unit_of}
 use Rattle.adr_model.specs.Spelled.{AreLocalsRising, IsContentOfAttr, IsSaidOfKey, IsSpelledChange, IsSpelledItem, IsSpelledWrite}
+use Rattle.adr_law_calls.specs.Follow.{CanFollow}
 use Rattle.adr_law_calls.specs.Tested.{can_follow}
 use Rattle.adr_law_calls.proofs.WholeTested.{follows_where_tested, tested_where_follows}
 use Rattle.adr_journal.specs.Kept.{ids_of}
 use Rattle.adr_image.specs.Body.{IsMarkIf, IsWrite, Write}
-use Rattle.adr_image.specs.Changes.{HasBody, change_bytes, decoded_change, item_of, written_of}
+use Rattle.adr_image.specs.Changes.{HasBody, decoded_change, item_of, written_of}
+use Rattle.adr_wire.specs.Headed.{is_version}
 use Rattle.adr_image.specs.Image.{Marked}
 use Rattle.adr_image.proofs.Recorded.{change_again, change_long, change_only}
 use Rattle.adr_image.proofs.Staying.{stays_spelled}
 use Rattle.adr_image.proofs.Storing.{chain, less_from_test}
 use Rattle.adr_image.proofs.Taking.{less_is}
-use Rattle.adr_records.specs.Body.{are_locals_within, by_change, following, following_in}
+use Rattle.adr_records.specs.Body.{are_locals_within, body_of, by_change, following, following_in}
 use Rattle.adr_records.specs.Logged.{IsLogged, MayBegin, MayBeRecorded}
 
 -- ---- what a body in range says is of the form of a change
@@ -122,17 +123,17 @@ writes_spelled last [] turn w m = absurd m
 writes_spelled last (x ∷ xs) turn w (inl e) = subst IsSpelledWrite (sym e) (piece_spelled x.1 turn.0.1)
 writes_spelled last (x ∷ xs) turn w (inr m) = writes_spelled (Some x.0) xs turn.1 w m
 
-pub change_spelled : (before schema : ℕ) (c : Change) → HasBody before schema c → are_locals_within c ≡ true → IsSpelledChange before c
-change_spelled before schema c has within =
+pub change_spelled : (version before schema : ℕ) (c : Change) → HasBody version before schema c → are_locals_within c ≡ true → IsSpelledChange before c
+change_spelled version before schema c has within =
     let b = has.body in
     let q = has.in_range in
     subst (IsSpelledChange before) (sym has.says) (record {
-      locals = locals_rise before b.0 b.1.1.1.1.1.1 q.1.1.1.1.1.1.1 (subst (λ (d : Change). are_locals_within d ≡ true) has.says within);
-      mark = mark_in_order b.1.1.0 q.1.1.0;
-      joined = q.1.1.1.0.0;
-      times = no_times b.1.1.1.0;
-      purged = q.1.1.1.1.0.0;
-      items = writes_spelled (Some before) b.1.1.1.1.1.1 q.1.1.1.1.1.1.1;
+      locals = locals_rise before b.0 b.1.1.1.1.1.1.1 q.1.1.1.1.1.1.1.1 (subst (λ (d : Change). are_locals_within d ≡ true) has.says within);
+      mark = mark_in_order b.1.1.1.0 q.1.1.1.0;
+      joined = q.1.1.1.1.0.is.cursors.0;
+      times = q.1.1.1.1.0.is.times;
+      purged = q.1.1.1.1.1.0.0;
+      items = writes_spelled (Some before) b.1.1.1.1.1.1.1 q.1.1.1.1.1.1.1.1;
     })
 
 -- ---- what is recorded follows
@@ -141,70 +142,71 @@ locals_within : (above usn : ℕ) (ws : List Written) → AreLocalsRising above 
 locals_within above usn [] rise = refl
 locals_within above usn (w ∷ ws) rise = and_from (leb w.local usn) (list_all (λ (v : Written). leb v.local usn) ws) (le-leb w.local usn rise.1) (locals_within w.local usn ws rise.2)
 
-pub body_follows : (s : State) (c : Change) → MayBeRecorded s c → following s (change_bytes c) ≡ Some (after s c)
+pub body_follows : (s : State) (c : Change) → MayBeRecorded s c → following area_version s (body_of c) ≡ Some (after s c)
 body_follows s c may =
-    ap (by_change s) (change_again s.store.usn s.store.schema c may.body)
+    ap (by_change s) (change_again area_version s.store.usn s.store.schema c may.body)
     ∙ ap (λ (b : Bool). cond b (Some (after s c)) None)
     (and_from (are_locals_within c) (can_follow s c) (locals_within s.store.usn c.usn c.writes may.follows.goes_on.locals) (tested_where_follows s c may.logged.formed may.follows))
 
-pub body_long : (s : State) (c : Change) → MayBeRecorded s c → length (change_bytes c) ≡ change_length c
+pub body_long : (s : State) (c : Change) → MayBeRecorded s c → length (body_of c) ≡ change_length c
 body_long s c may = change_long s.store.usn s.store.schema c may.body
 
 -- ---- what follows is recorded
 
--- a change that has a body and can follow
-pub change_follows : (s : State) (c : Change) → IsLogged s → HasBody s.store.usn s.store.schema c → are_locals_within c ≡ true → can_follow s c ≡ true → MayBeRecorded s c
-change_follows s c logged has within follows = record {
-  logged = logged;
-  follows = follows_where_tested s c logged.formed logged.classes (change_spelled s.store.usn s.store.schema c has within) follows;
-  body = has;
-}
+module _ (version : ℕ) (s : State) where
+  -- a change that has a body of a version and is tested can follow
+  pub change_follows : (c : Change) → IsLogged s → HasBody version s.store.usn s.store.schema c → are_locals_within c ≡ true → can_follow s c ≡ true → CanFollow s c
+  change_follows c logged has within follows = follows_where_tested s c logged.formed logged.classes (change_spelled version s.store.usn s.store.schema c has within) follows
+
+  pub logged_behind : (c : Change) → IsLogged s → CanFollow s c → HasBody version s.store.usn s.store.schema c → IsLogged (after s c)
+  logged_behind c logged follows has = record {
+    dsa = logged.dsa;
+    inv = logged.inv;
+    formed = follows.formed;
+    spelled = stays_spelled version s c logged.inv logged.spelled has follows.classes;
+    classes = follows.classes;
+  }
+
+  pub stays_logged : (t : State) (body : List ℕ) → AreBytes body → IsLogged s → following version s body ≡ Some t → IsLogged t
+  stays_logged t body are logged follows = by (decoded_change version s.store.usn s.store.schema body) refl follows
+    where
+      on : (c : Change) (b : Bool) → decoded_change version s.store.usn s.store.schema body ≡ Some c → (are_locals_within c && can_follow s c) ≡ b → cond b (Some (after s c)) None ≡ Some t → IsLogged t
+      on c true says passes h =
+          let a = and_parts (are_locals_within c) (can_follow s c) passes in
+          let has = (change_only version s.store.usn s.store.schema body c are says).0 in
+          let is : after s c ≡ t = cc in
+          subst IsLogged is (logged_behind c logged (change_follows c logged has a.0 a.1) has)
+      on c false says passes h = absurd (cc)
+
+      by : (r : Option Change) → decoded_change version s.store.usn s.store.schema body ≡ r → by_change s r ≡ Some t → IsLogged t
+      by (Some c) says h = on c (are_locals_within c && can_follow s c) says refl h
+      by None says h = absurd (cc)
+
+  follows_owned : (t : State) (body : List ℕ) → following version s body ≡ Some t → ids_of t ≡ ids_of s
+  follows_owned t body follows = by (decoded_change version s.store.usn s.store.schema body) follows
+    where
+      on : (c : Change) (b : Bool) → cond b (Some (after s c)) None ≡ Some t → ids_of t ≡ ids_of s
+      on c true h = let is : after s c ≡ t = cc in ap ids_of (sym is)
+      on c false h = absurd (cc)
+
+      by : (r : Option Change) → by_change s r ≡ Some t → ids_of t ≡ ids_of s
+      by (Some c) h = on c (are_locals_within c && can_follow s c) h
+      by None h = absurd (cc)
 
 pub logged_after : (s : State) (c : Change) → MayBeRecorded s c → IsLogged (after s c)
-logged_after s c may = record {
-  dsa = may.logged.dsa;
-  inv = may.logged.inv;
-  formed = may.follows.formed;
-  spelled = stays_spelled s c may.logged.inv may.logged.spelled may.body may.follows.classes;
-  classes = may.follows.classes;
-}
-
-pub stays_logged : (s t : State) (body : List ℕ) → AreBytes body → IsLogged s → following s body ≡ Some t → IsLogged t
-stays_logged s t body are logged follows = by (decoded_change s.store.usn s.store.schema body) refl follows
-  where
-    on : (c : Change) (b : Bool) → decoded_change s.store.usn s.store.schema body ≡ Some c → (are_locals_within c && can_follow s c) ≡ b → cond b (Some (after s c)) None ≡ Some t → IsLogged t
-    on c true says passes h =
-        let a = and_parts (are_locals_within c) (can_follow s c) passes in
-        let is : after s c ≡ t = cc in
-        subst IsLogged is (logged_after s c (change_follows s c logged (change_only s.store.usn s.store.schema body c are says).0 a.0 a.1))
-    on c false says passes h = absurd (cc)
-
-    by : (r : Option Change) → decoded_change s.store.usn s.store.schema body ≡ r → by_change s r ≡ Some t → IsLogged t
-    by (Some c) says h = on c (are_locals_within c && can_follow s c) says refl h
-    by None says h = absurd (cc)
+logged_after s c may = logged_behind area_version s c may.logged may.follows may.body
 
 -- ---- by the version of an area
 
-pub body_follows_in : (s : State) (c : Change) → MayBeRecorded s c → following_in area_version s (change_bytes c) ≡ Some (after s c)
+pub body_follows_in : (s : State) (c : Change) → MayBeRecorded s c → following_in area_version s (body_of c) ≡ Some (after s c)
 body_follows_in s c may = body_follows s c may
 
 pub begins_anew : (s : State) (c : Change) → MayBeRecorded s c → MayBegin s
 begins_anew s c may = record { logged = may.logged; normal = may.follows.goes_on.normal }
 
-follows_owned : (s t : State) (body : List ℕ) → following s body ≡ Some t → ids_of t ≡ ids_of s
-follows_owned s t body follows = by (decoded_change s.store.usn s.store.schema body) follows
-  where
-    on : (c : Change) (b : Bool) → cond b (Some (after s c)) None ≡ Some t → ids_of t ≡ ids_of s
-    on c true h = let is : after s c ≡ t = cc in ap ids_of (sym is)
-    on c false h = absurd (cc)
-
-    by : (r : Option Change) → by_change s r ≡ Some t → ids_of t ≡ ids_of s
-    by (Some c) h = on c (are_locals_within c && can_follow s c) h
-    by None h = absurd (cc)
-
 pub stays_owned : (version : ℕ) (s t : State) (body : List ℕ) → AreBytes body → IsLogged s → following_in version s body ≡ Some t → IsLogged t × (ids_of t ≡ ids_of s)
-stays_owned version s t body are logged follows = by (eqb version 1) follows
+stays_owned version s t body are logged follows = by (is_version version) follows
   where
-    by : (b : Bool) → cond b (following s body) None ≡ Some t → IsLogged t × (ids_of t ≡ ids_of s)
-    by true h = (stays_logged s t body are logged h, follows_owned s t body h)
+    by : (b : Bool) → cond b (following version s body) None ≡ Some t → IsLogged t × (ids_of t ≡ ids_of s)
+    by true h = (stays_logged version s t body are logged h, follows_owned version s t body h)
     by false h = absurd (cc)

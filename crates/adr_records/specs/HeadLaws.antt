@@ -3,12 +3,12 @@ use Rattle.std.proofs.Common.{◌≡◌, ℕ, ◌+◌, ◌≤◌, ◌<◌, Bool,
 use Rattle.std.proofs.lemmas.Bool.{eq-eqb, eqb-true, le-ltb, ltb-false}
 use Rattle.std.proofs.lemmas.List.{take_at, drop_at, take-append-drop, length-append, length-take, nil_from_length}
 use Rattle.adr_values.specs.Vector.{at}
-use Rattle.adr_wire.specs.Fields.{format_version_at, id_at, magic_at, u32_at, u16, u32, id}
-use Rattle.adr_wire.specs.Ranges.{IsId, IsU32}
-use Rattle.adr_wire.specs.Reading.{Rest, Read, Reading, ◌>>=◌, then_at}
+use Rattle.adr_wire.specs.Fields.{format_version_at, id_at, magic_at, u16_at, u32_at, u16, u32, id}
+use Rattle.adr_wire.specs.Ranges.{IsId, IsU16, IsU32}
+use Rattle.adr_wire.specs.Reading.{Rest, Read, Reading, ◌>>=◌, then_at, where_at}
 use Rattle.adr_wire.specs.Spelling.{AreBytes, behind, Was, IsSpelling}
 use Rattle.adr_wire.proofs.Combining.{as_they_are, bind_ok, both, from, guard_ok, made, ok_is, pair, passed, spelled_bytes}
-use Rattle.adr_wire.proofs.FieldLaws.{format_version_spelled, id_spelled, magic_spelled, u32_spelled}
+use Rattle.adr_wire.proofs.FieldLaws.{format_version_spelled, id_spelled, magic_spelled, u16_spelled, u32_spelled}
 use Rattle.adr_model.specs.Formed.{IsFormedStore}
 use Rattle.adr_model.specs.Lengths.{image_length, length_limit, area_version}
 use Rattle.adr_model.specs.Store.{Held, Mode, Normal, State, Store}
@@ -16,10 +16,13 @@ use Rattle.adr_model.specs.Update.{Identifier}
 use Rattle.adr_model.proofs.Members.{mapped_member}
 use Rattle.adr_law_calls.specs.Follow.{HasKnownClasses}
 use Rattle.adr_law_journal.specs.Areas.{Began, IsHead, TellsArea, WasArea}
-use Rattle.adr_image.specs.Stored.{IsSpelled, image, image_at}
+use Rattle.adr_image.specs.Stored.{IsSpelled, image, image_at, parts_in}
+use Rattle.adr_wire.specs.Headed.{is_version}
+use Rattle.adr_image.specs.Whole.{image_of}
 use Rattle.adr_image.proofs.Counted.{store_long}
-use Rattle.adr_image.proofs.Placed.{image_spelled}
-use Rattle.adr_records.specs.Head.{area, area_at, began, framed_at, front, front_at, magic, own_image_at, sized, sized_at, state_of, within_at}
+use Rattle.adr_image.proofs.Placed.{IsRight, image_spelled, of_two, version_fits}
+use Rattle.adr_image.proofs.WholeLaws.{one_or_two}
+use Rattle.adr_records.specs.Head.{area, area_at, area_of, began, framed_at, front, front_at, magic, own_image_at, sized, sized_at, state_of, within_at}
 use Rattle.adr_records.specs.Logged.{IsLogged, MayBegin}
 
 -- ---- what stands in so many bytes
@@ -174,18 +177,25 @@ head_ids l o head = ids_read (from 1 (l ++ [])) o (behind 1 l []) (head.tells []
 
 -- ---- the image of an area
 
-abbrev pub IsRight : Store → Type 0
-IsRight s = IsFormedStore s × IsSpelled s
+abbrev pub image_in : ℕ → Store → List ℕ
+image_in version s = image_of version (parts_in s)
 
 abbrev pub is_own : Identifier → Store → Bool
 is_own inv s = eqb (at s.vector inv) s.usn
 
-abbrev pub IsOwn : Identifier → ℕ → Store → Type 0
-IsOwn inv n s = (IsRight s × (length (image s) ≡ n)) × (is_own inv s ≡ true)
+-- a store that a log of this database can begin with
+abbrev pub IsOwn : Identifier → Store → Type 0
+IsOwn inv s = (IsFormedStore s × IsSpelled s) × (is_own inv s ≡ true)
 
-pub own_spelled : (inv : Identifier) (n : ℕ) → IsSpelling (IsOwn inv n) image (own_image_at inv n)
+-- and whose image of a version has so many bytes
+abbrev pub IsOwnOf : ℕ → Identifier → ℕ → Store → Type 0
+IsOwnOf version inv n s = (IsRight version s × (length (image_in version s) ≡ n)) × (is_own inv s ≡ true)
+
+pub own_spelled : (version : ℕ) → IsU16 version → (inv : Identifier) (n : ℕ) → IsSpelling (IsOwnOf version inv n) (image_in version) (own_image_at version inv n)
 unfolding own_image_at
-own_spelled inv n = passed (λ s. IsRight s × (length (image s) ≡ n)) image (framed_at image_at n) (framed IsRight image image_at image_spelled n) (is_own inv)
+own_spelled version fits inv n =
+    passed (λ s. IsRight version s × (length (image_in version s) ≡ n)) (image_in version) (framed_at (image_at version) n)
+    (framed (IsRight version) (image_in version) (image_at version) (image_spelled version fits) n) (is_own inv)
 
 pub classes_known : (s : State) → IsSpelled s.store → HasKnownClasses s
 classes_known s q u m class said =
@@ -195,11 +205,11 @@ classes_known s q u m class said =
 -- ---- the whole area
 
 abbrev pub IsSized : ℕ × ℕ → Type 0
-IsSized p = (p.0 ≡ 1) × IsU32 p.1
+IsSized p = (IsU16 p.0 × (is_version p.0 ≡ true)) × IsU32 p.1
 
 pub sized_spelled : IsSpelling IsSized sized sized_at
 unfolding sized_at
-sized_spelled = pair (λ v. v ≡ 1) u16 (format_version_at 1) (format_version_spelled 1 (omega arith)) IsU32 u32 u32_at u32_spelled
+sized_spelled = pair (λ v. IsU16 v × (is_version v ≡ true)) u16 (where_at is_version u16_at) (passed IsU16 u16 u16_at u16_spelled is_version) IsU32 u32 u32_at u32_spelled
 
 pub sized_long : (p : ℕ × ℕ) → length (sized p) ≡ 6
 unfolding u16 u32
@@ -207,46 +217,45 @@ sized_long p = simp length-append (omega arith)
 
 -- what an area begins with in a log of these identifiers
 pub record IsBegun (o : Ids) (b : Began State) : Type 0 where
-  pub version : b.version ≡ 1
+  pub version : is_version b.version ≡ true
   pub owner : (b.state.dsa, b.state.inv) ≡ o
   pub normal : b.state.mode ≡ Normal
-  pub own : IsOwn o.1 (length (image b.state.store)) b.state.store
-  pub short : IsU32 (length (image b.state.store))
+  pub own : IsOwnOf b.version o.1 (length (image_in b.version b.state.store)) b.state.store
+  pub short : IsU32 (length (image_in b.version b.state.store))
 
 abbrev area_in : Began State → List ℕ
-area_in b = area b.state
+area_in b = area_of b.version (image_in b.version b.state.store)
 
 pub area_spelled : (o : Ids) → IsSpelling (IsBegun o) area_in (area_at o)
 unfolding area_at
 area_spelled o =
-    made (λ (p : (ℕ × ℕ) × Store). IsSized p.0 × IsOwn o.1 p.0.1 p.1) (λ p. sized p.0 ++ image p.1) (then_at sized_at (λ p. own_image_at o.1 p.1))
-    (both IsSized sized sized_at sized_spelled (λ p s. IsOwn o.1 p.1 s) (λ p s. image s) (λ p. own_image_at o.1 p.1) (λ p q. own_spelled o.1 p.1))
+    made (λ (p : (ℕ × ℕ) × Store). IsSized p.0 × IsOwnOf p.0.0 o.1 p.0.1 p.1) (λ p. sized p.0 ++ image_in p.0.0 p.1) (then_at sized_at (λ p. own_image_at p.0 o.1 p.1))
+    (both IsSized sized sized_at sized_spelled (λ p s. IsOwnOf p.0 o.1 p.1 s) (λ p s. image_in p.0 s) (λ p. own_image_at p.0 o.1 p.1) (λ p q. own_spelled p.0 q.0.0 o.1 p.1))
     (λ p. began p.0.0 (state_of o p.1)) (IsBegun o) area_in
     (λ b q. (
-      ((1, length (image b.state.store)), b.state.store),
-      ap (λ (v : ℕ). began v b.state) q.version
-          ∙ ap (λ (m : Mode). began 1 (record { dsa = b.state.dsa; inv = b.state.inv; mode = m; store = b.state.store })) q.normal
-          ∙ ap (λ (p : Ids). began 1 (state_of p b.state.store)) q.owner,
-      ((refl, q.short), q.own),
+      ((b.version, length (image_in b.version b.state.store)), b.state.store),
+      ap (λ (m : Mode). began b.version (record { dsa = b.state.dsa; inv = b.state.inv; mode = m; store = b.state.store })) q.normal
+          ∙ ap (λ (p : Ids). began b.version (state_of p b.state.store)) q.owner,
+      (((version_fits b.version q.version, q.version), q.short), q.own),
       refl,
     ))
     (λ p q fits. (
       record {
-        version = q.0.0;
+        version = q.0.0.1;
         owner = refl;
         normal = refl;
         own = ((q.1.0.0, refl), q.1.1);
         short = subst IsU32 (sym q.1.0.1) q.0.1;
       },
-      ap (λ (n : ℕ). sized (1, n) ++ image p.1) q.1.0.1 ∙ ap (λ (v : ℕ). sized (v, p.0.1) ++ image p.1) (sym q.0.0),
+      ap (λ (n : ℕ). sized (p.0.0, n) ++ image_in p.0.0 p.1) q.1.0.1,
     ))
 
-begins_begun : (s : State) → MayBegin s → image_length s.store < length_limit → IsBegun (s.dsa, s.inv) (began 1 s)
+begins_begun : (s : State) → MayBegin s → image_length s.store < length_limit → IsBegun (s.dsa, s.inv) (began area_version s)
 begins_begun s begins short = record {
   version = refl;
   owner = refl;
   normal = begins.normal;
-  own = (((begins.logged.formed.store, begins.logged.spelled), refl), eq-eqb (at s.store.vector s.inv) s.store.usn begins.logged.formed.own);
+  own = ((((begins.logged.formed.store, begins.logged.spelled), of_two (parts_in s.store)), refl), eq-eqb (at s.store.vector s.inv) s.store.usn begins.logged.formed.own);
   short = subst (λ (n : ℕ). n < 4294967296) (sym (store_long s.store begins.logged.formed.store begins.logged.spelled)) short;
 }
 
@@ -255,26 +264,26 @@ begun_logged o b are q = record {
   dsa = subst (λ (p : Ids). IsId p.0) (sym q.owner) are.0;
   inv = subst (λ (p : Ids). IsId p.1) (sym q.owner) are.1;
   formed = record {
-    store = q.own.0.0.0;
+    store = q.own.0.0.0.0;
     own = eqb-true (at b.state.store.vector b.state.inv) b.state.store.usn (subst (λ (p : Ids). is_own p.1 b.state.store ≡ true) (sym q.owner) q.own.1);
   };
-  spelled = q.own.0.0.1;
-  classes = classes_known b.state q.own.0.0.1;
+  spelled = q.own.0.0.0.1;
+  classes = classes_known b.state q.own.0.0.0.1;
 }
 
 pub area_told : (place : ℕ) (s : State) → MayBegin s → image_length s.store < length_limit → TellsArea (area_at (s.dsa, s.inv)) place (area s) area_version s
-area_told place s begins short rest = (area_spelled (s.dsa, s.inv)).again place (began 1 s) rest (begins_begun s begins short)
+area_told place s begins short rest = (area_spelled (s.dsa, s.inv)).again place (began area_version s) rest (begins_begun s begins short)
 
 pub area_long : (s : State) → IsLogged s → length (area s) ≡ 6 + image_length s.store
 area_long s logged =
-    let front = sized_long (1, length (image s.store)) in
-    omega (arith, length-append (sized (1, length (image s.store))) (image s.store), front, store_long s.store logged.formed.store logged.spelled)
+    let front = sized_long (area_version, length (image s.store)) in
+    omega (arith, length-append (sized (area_version, length (image s.store))) (image s.store), front, store_long s.store logged.formed.store logged.spelled)
 
 pub area_read : (place : ℕ) (o : Ids) (bytes : List ℕ) (b : Began State) (rest : Rest) → AreBytes bytes → area_at o (from place bytes) ≡ Ok (b, rest) → WasArea (area_at o) place bytes b rest
 area_read place o bytes b rest are read =
     let was = (area_spelled o).only place bytes b rest are read in
     record {
-      read = area b.state;
+      read = area_in b;
       parts = was.spelled_so;
       moved = was.moved;
       tells = λ after. (area_spelled o).again place b after was.in_range;
@@ -284,4 +293,4 @@ pub area_formed : (place : ℕ) (l : List ℕ) (o : Ids) (bytes : List ℕ) (b :
     → IsLogged b.state × ((b.state.dsa, b.state.inv) ≡ o) × (b.version ≤ area_version)
 area_formed place l o bytes b rest head are read =
     let was = (area_spelled o).only place bytes b rest are read in
-    (begun_logged o b (head_ids l o head) was.in_range, was.in_range.owner, (let v = was.in_range.version in omega (arith, v)))
+    (begun_logged o b (head_ids l o head) was.in_range, was.in_range.owner, one_or_two b.version was.in_range.version)

@@ -3,6 +3,7 @@ use Rattle.std.specs.Prelude.{◌≡◌}
 use Rattle.adr_wire.specs.Ranges.{IsId}
 use Rattle.adr_model.specs.Change.{Change}
 use Rattle.adr_model.specs.Formed.{IsFormed}
+use Rattle.adr_model.specs.Lengths.{area_version}
 use Rattle.adr_model.specs.Store.{Normal, State}
 use Rattle.adr_law_calls.specs.Follow.{CanFollow, HasKnownClasses}
 use Rattle.adr_image.specs.Changes.{HasBody}
@@ -21,8 +22,8 @@ pub record MayBegin (s : State) : Type 0 where
   pub logged : IsLogged s
   pub normal : s.mode ≡ Normal
 
--- a change that can be written as a record and can follow the state
+-- a change that can be written as a record, in the version that is written, and can follow the state
 pub record MayBeRecorded (s : State) (c : Change) : Type 0 where
   pub logged : IsLogged s
   pub follows : CanFollow s c
-  pub body : HasBody s.store.usn s.store.schema c
+  pub body : HasBody area_version s.store.usn s.store.schema c

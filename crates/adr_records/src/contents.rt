@@ -21,12 +21,12 @@ fn contents_of<'a>(
     requires marks { marks.now ≡ state.now.store.marks }
     ensures { result ≡ state.now.store }
 {
-    state.knows_no_times();
     ContentsRef {
         schema: state.schema(),
         usn: state.usn(),
         rows,
         vector: state.vector(),
+        times: state.times(),
         purged: state.purged(),
         marks,
     }

@@ -6,7 +6,7 @@ ghost use Rattle.adr_records.specs.Body.{are_locals_within, by_change, following
 ghost use Rattle.adr_records.specs.Logged.{IsLogged};
 
 use crate::follow::can_follow;
-use crate::head::AREA_VERSION;
+use crate::head::is_known;
 use crate::waking::unless_full;
 use adr_image::decode_change;
 use adr_journal::FollowRefusal;
@@ -21,10 +21,15 @@ fn are_locals_within(change: &Change) -> bool
     change.writes().iter().all(|written| written.local() <= usn)
 }
 
-/// Applies a change that was read, if it can follow the state.
-fn apply_read(alloc: Global, state: &mut State, change: Change) -> Result<(), FollowRefusal>
+/// Applies a change that was read of a version, if it can follow the state.
+fn apply_read(
+    alloc: Global,
+    version: u16,
+    state: &mut State,
+    change: Change,
+) -> Result<(), FollowRefusal>
     requires logged { IsLogged state.old }
-    requires body { HasBody state.old.store.usn state.old.store.schema change }
+    requires body { HasBody version state.old.store.usn state.old.store.schema change }
     ensures ok { OnOk result (by_change state.old (Some change) ≡ Some state.new) }
     ensures refused { IsErrOf result FollowRefusal.CannotFollow → by_change state.old (Some change) ≡ None }
     ensures err { OnErr result (state.new ≡ state.old) }
@@ -43,15 +48,20 @@ fn apply_read(alloc: Global, state: &mut State, change: Change) -> Result<(), Fo
     }
 }
 
-/// Takes a record of this body.
-fn follow_body(alloc: Global, state: &mut State, body: &[u8]) -> Result<(), FollowRefusal>
+/// Takes a record of this body of a version.
+fn follow_body(
+    alloc: Global,
+    version: u16,
+    state: &mut State,
+    body: &[u8],
+) -> Result<(), FollowRefusal>
     requires { IsLogged state.old }
-    ensures ok { OnOk result (following state.old body.now ≡ Some state.new) }
-    ensures refused { IsErrOf result FollowRefusal.CannotFollow → following state.old body.now ≡ None }
+    ensures ok { OnOk result (following version state.old body.now ≡ Some state.new) }
+    ensures refused { IsErrOf result FollowRefusal.CannotFollow → following version state.old body.now ≡ None }
     ensures err { OnErr result (state.new ≡ state.old) }
 {
-    match decode_change(alloc, state.usn(), state.schema(), body) {
-        Ok(Some(change)) => apply_read(alloc, state, change),
+    match decode_change(alloc, version, state.usn(), state.schema(), body) {
+        Ok(Some(change)) => apply_read(alloc, version, state, change),
         Ok(None) => Err(FollowRefusal::CannotFollow),
         Err(_) => Err(FollowRefusal::NoMemory),
     }
@@ -69,8 +79,8 @@ pub(crate) fn follow(
     ensures refused { IsErrOf result FollowRefusal.CannotFollow → following_in version state.old body.now ≡ None }
     ensures err { OnErr result (state.new ≡ state.old) }
 {
-    if version != AREA_VERSION {
+    if !is_known(version) {
         return Err(FollowRefusal::CannotFollow);
     }
-    follow_body(alloc, state, body)
+    follow_body(alloc, version, state, body)
 }

@@ -1,9 +1,10 @@
 //! The front of a log and its areas are written and read.
 
-ghost use Rattle.std.specs.Prelude.{◌≡◌, ◌+◌, ◌≤◌, ◌<◌, ◌^◌, ◌++◌, Ok, IfOk, IfErr, IfSome, OnOk, is_some, length, drop, nat_lt};
+ghost use Rattle.std.specs.Prelude.{◌≡◌, ◌+◌, ◌≤◌, ◌<◌, ◌^◌, Ok, IfOk, IfErr, IfSome, OnOk, is_some, length, drop, nat_lt};
 ghost use Rattle.adr_wire.specs.Reading.{Gives, Refuses, Rest, Tells, TellsAs};
-ghost use Rattle.adr_model.specs.Lengths.{image_length, length_limit};
+ghost use Rattle.adr_model.specs.Lengths.{area_version, image_length, length_limit};
 ghost use Rattle.adr_image.specs.Stored.{image_at};
+ghost use Rattle.adr_wire.specs.Headed.{is_version};
 ghost use Rattle.adr_records.specs.Head as form;
 ghost use Rattle.adr_records.specs.HeadLaws.{IsOwn};
 ghost use Rattle.adr_records.specs.Logged.{IsLogged};
@@ -23,11 +24,19 @@ const MAGIC: [u8; 4] = [65, 68, 74, 76];
 /// The version of the logs that are read and written.
 const VERSION: u16 = 2;
 
-/// The version of the areas that are read and written, and of their records.
-pub(crate) const AREA_VERSION: u16 = 1;
+/// The version of the areas that are written, and of their records. Those of version 1 are read too: they tell no times, and
+/// their records no schema.
+const AREA_VERSION: u16 = 2;
 
 /// How many bytes of an area stand in front of its image: its version, and how many bytes the image has.
 const IMAGE_OFFSET: usize = 6;
+
+/// Whether areas of this version are read.
+pub(crate) fn is_known(version: u16) -> bool
+    ensures { result ≡ is_version version }
+{
+    version == 1 || version == AREA_VERSION
+}
 
 /// The front of a state's log.
 pub(crate) fn write_front(alloc: Global, state: &State) -> Result<Vec<u8>, NoMemory>
@@ -44,7 +53,7 @@ pub(crate) fn write_front(alloc: Global, state: &State) -> Result<Vec<u8>, NoMem
 /// An area of an image.
 fn area_of(alloc: Global, image: &[u8]) -> Result<Vec<u8>, NoMemory>
     requires { length image.now < 2 ^ 32 }
-    ensures { IfOk result (λ bytes. bytes.items ≡ form.sized (1, length image.now) ++ image.now) }
+    ensures { IfOk result (λ bytes. bytes.items ≡ form.area_of area_version image.now) }
 {
     let mut writer = Writer::new(alloc);
     writer.write_u16(&AREA_VERSION)?;
@@ -101,12 +110,12 @@ pub(crate) fn read_front(bytes: &[u8]) -> Result<Owner, WireRefusal>
     read_owner(&mut reader)
 }
 
-/// The version of the area at a place, and how many bytes its image has.
+/// The version of the area at a place, which is one that is read, and how many bytes its image has.
 #[tactic(auto, unfolding(crate::specs::Head::sized_at))]
 fn read_sized(reader: &mut Reader<'_>) -> Result<(u16, u32), WireRefusal>
     ensures { Tells result reader.new (form.sized_at reader.old) }
 {
-    let version = reader.read_format_version(AREA_VERSION)?;
+    let version = reader.read_known_version()?;
     let len = reader.read_u32()?;
     Ok((version, len))
 }
@@ -122,28 +131,40 @@ fn read_sized_of(bytes: &[u8], place: usize) -> Result<(u16, u32), WireRefusal>
     read_sized(&mut reader)
 }
 
-/// What the image at a place of a file says which has so many bytes, as far as they are there.
-fn read_there(alloc: Global, bytes: &[u8], place: usize, len: u32) -> Result<Contents, WireRefusal>
+/// What the image of a version at a place of a file says which has so many bytes, as far as they are there.
+fn read_there(
+    alloc: Global,
+    bytes: &[u8],
+    place: usize,
+    version: u16,
+    len: u32,
+) -> Result<Contents, WireRefusal>
     requires { place ≤ length bytes.now }
     ensures read { IfOk result (λ contents. (r : Rest)
-        × (form.within_at image_at len (record { place = place; bytes = drop place bytes.now }) ≡ Ok (contents, r))) }
+        × (form.within_at (image_at version) len (record { place = place; bytes = drop place bytes.now }) ≡ Ok (contents, r))) }
     ensures refused { IfErr result (λ e.
-        Refuses e (form.within_at image_at len (record { place = place; bytes = drop place bytes.now }))) }
+        Refuses e (form.within_at (image_at version) len (record { place = place; bytes = drop place bytes.now }))) }
 {
     let end = (place + len as usize).min(bytes.len());
     let mut reader = Reader::at(&bytes[..end], place);
-    let contents = read_image(&mut reader, alloc)?;
+    let contents = read_image(&mut reader, alloc, version)?;
     reader.end()?;
     Ok(contents)
 }
 
-/// What the image at a place of a file says, which has so many bytes.
-fn read_framed(alloc: Global, bytes: &[u8], place: usize, len: u32) -> Result<Contents, WireRefusal>
+/// What the image of a version at a place of a file says, which has so many bytes.
+fn read_framed(
+    alloc: Global,
+    bytes: &[u8],
+    place: usize,
+    version: u16,
+    len: u32,
+) -> Result<Contents, WireRefusal>
     requires { place ≤ length bytes.now }
     ensures { Gives result (record { place = place + len; bytes = drop (place + len) bytes.now })
-        (form.framed_at image_at len (record { place = place; bytes = drop place bytes.now })) }
+        (form.framed_at (image_at version) len (record { place = place; bytes = drop place bytes.now })) }
 {
-    let contents = read_there(alloc, bytes, place, len)?;
+    let contents = read_there(alloc, bytes, place, version, len)?;
     if bytes.len() < place + len as usize {
         drop(contents);
         return Err(malformed(bytes.len()));
@@ -151,19 +172,20 @@ fn read_framed(alloc: Global, bytes: &[u8], place: usize, len: u32) -> Result<Co
     Ok(contents)
 }
 
-/// What the image in a log says, whose own cursor is its update sequence number.
+/// What the image of a version in a log says, whose own cursor is its update sequence number.
 fn read_own(
     alloc: Global,
     bytes: &[u8],
     place: usize,
+    version: u16,
     len: u32,
     inv: Guid,
 ) -> Result<Contents, WireRefusal>
     requires { place ≤ length bytes.now }
     ensures { Gives result (record { place = place + len; bytes = drop (place + len) bytes.now })
-        (form.own_image_at inv len (record { place = place; bytes = drop place bytes.now })) }
+        (form.own_image_at version inv len (record { place = place; bytes = drop place bytes.now })) }
 {
-    let contents = read_framed(alloc, bytes, place, len)?;
+    let contents = read_framed(alloc, bytes, place, version, len)?;
     if contents.vector.at(inv) != contents.usn {
         drop(contents);
         return Err(malformed(place));
@@ -171,9 +193,9 @@ fn read_own(
     Ok(contents)
 }
 
-/// A controller of a log's owner and of what an image of so many bytes says.
-fn woken(alloc: Global, contents: Contents, owner: Owner, len: u32) -> Result<State, NoMemory>
-    requires { IsOwn owner.inv len contents }
+/// A controller of a log's owner and of what an image in it says.
+fn woken(alloc: Global, contents: Contents, owner: Owner) -> Result<State, NoMemory>
+    requires { IsOwn owner.inv contents }
     ensures { IfOk result (λ state. state ≡ form.state_of (owner.dsa, owner.inv) contents) }
 {
     unless_full(wake(alloc, contents, owner.dsa, owner.inv))
@@ -197,9 +219,9 @@ pub(crate) fn read_area(
     let sized = read_sized_of(bytes, place)?;
     let (version, len) = sized;
     let image = place + IMAGE_OFFSET;
-    let contents = read_own(alloc, bytes, image, len, owner.inv)?;
+    let contents = read_own(alloc, bytes, image, version, len, owner.inv)?;
     Ok(AreaRead {
-        state: woken(alloc, contents, owner, len)?,
+        state: woken(alloc, contents, owner)?,
         first: image + len as usize,
         version,
     })

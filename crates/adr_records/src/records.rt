@@ -13,8 +13,7 @@ use std::alloc::Global;
 pub enum Records {}
 
 impl Form for Records {
-    ghost use Rattle.adr_image.specs.Changes.{change_bytes};
-    ghost use Rattle.adr_records.specs.Body.{following_in};
+    ghost use Rattle.adr_records.specs.Body.{body_of, following_in};
     ghost use Rattle.adr_records.specs.Head.{area, area_at, front, front_at};
     ghost use Rattle.adr_records.specs.Logged.{IsLogged, MayBegin, MayBeRecorded};
     ghost use Rattle.adr_records.specs.BodyLaws.{begins_anew, body_follows_in, body_long, stays_owned};
@@ -30,7 +29,7 @@ impl Form for Records {
 
     ghost area_of = { area };
 
-    ghost body_of = { change_bytes };
+    ghost body_of = { body_of };
 
     ghost can_begin = { MayBegin };
 

@@ -12,12 +12,12 @@ const UPGRADED: u32 = 2;
 fn is_upgraded(state: &State, change: &Change) -> bool
     ensures { result ≡ is_upgraded state.now change.now }
 {
-    change.joins_no_times();
     change.usn() == state.usn()
         && !change.mode().is_quarantined()
         && change.schema().number() == UPGRADED
         && change.mark().is_none()
         && change.joined().cursors().is_empty()
+        && change.times().is_empty()
         && change.purged().cursors().is_empty()
         && change.removed().is_empty()
         && change.writes().is_empty()

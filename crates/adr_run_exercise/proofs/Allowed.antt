@@ -7,6 +7,7 @@ use Rattle.std.specs.Fmt.{decimal}
 use Rattle.std.proofs.lemmas.Int.{ints}
 use Rattle.adr_values.specs.declared.content.Value.TheVariants.{Text as Words, Number as Figures}
 use Rattle.adr_call.specs.declared.write.Write.TheVariants.{Delete}
+use Rattle.adr_call.specs.declared.call.Call.TheVariants as calls
 use Rattle.adr_call.specs.declared.event.Event.TheVariants as kinds
 use Rattle.adr_token.specs.Words.{is_name}
 use Rattle.adr_token.specs.Texts.{is_text}
@@ -107,7 +108,7 @@ pub pull_allowed : (name source : List ℕ) → is_name name ≡ true → is_nam
 unfolding tokens_behind
 pull_allowed name source is was = ((omega arith, omega arith), (word_spelled _, (name_spelled name is, (name_spelled source was, (number_spelled 3 (omega arith), tt)))))
 
-pub collect_allowed : (name : List ℕ) → is_name name ≡ true → IsAllowed (kinds.Collect name 5000)
+pub collect_allowed : (name : List ℕ) → is_name name ≡ true → IsAllowed (kinds.Calls name (calls.Collect 5000))
 unfolding tokens_behind
 collect_allowed name is = (tt, (word_spelled _, (name_spelled name is, (number_spelled 5000 (omega arith), tt))))
 
@@ -129,7 +130,7 @@ unfolding tokens_behind
 serve_allowed name request bound is was new =
     (tt, (word_spelled _, (name_spelled name is, (name_spelled request was, (word_spelled _, (name_spelled bound new, tt))))))
 
-pub delete_allowed : (name : List ℕ) (id : ℕ) → is_name name ≡ true → IsAllowed (kinds.Write name (Delete (identifier id)))
+pub delete_allowed : (name : List ℕ) (id : ℕ) → is_name name ≡ true → IsAllowed (kinds.Calls name (calls.Write (Delete (identifier id))))
 unfolding tokens_behind
 delete_allowed name id is = (tt, (word_spelled _, (name_spelled name is, (identifier_spelled id, tt))))
 

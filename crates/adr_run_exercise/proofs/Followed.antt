@@ -11,6 +11,7 @@ use Rattle.std.proofs.lemmas.Slice.Eq.{bytes_eq-Decides}
 use Rattle.adr_values.specs.First.{first_of}
 use Rattle.adr_call.specs.Supported.{IsSupported}
 use Rattle.adr_call.specs.declared.event.Event.{Event}
+use Rattle.adr_call.specs.declared.call.Call.TheVariants as calls
 use Rattle.adr_call.specs.declared.event.Event.TheVariants as kinds
 use Rattle.adr_call.specs.declared.write.Write.TheVariants.{Delete}
 use Rattle.adr_schedule.specs.declared.fault.Cause.{Cause}
@@ -134,7 +135,7 @@ pull_quiet name source one other = record {
   same = λ seen. refl;
 }
 
-collect_quiet : (name : List ℕ) → IsOne name → IsQuiet (kinds.Collect name 5000)
+collect_quiet : (name : List ℕ) → IsOne name → IsQuiet (kinds.Calls name (calls.Collect 5000))
 collect_quiet name one = record { none = λ seen has. bound_among seen name has one; allowed = collect_allowed name one.named; same = λ seen. refl }
 
 group_quiet : (g : ℕ) → IsSmall g → IsQuiet (group_added g)
@@ -166,10 +167,10 @@ deletion_quiet : (k : ℕ) → AreQuiet (person_deleted k)
 unfolding person_deleted
 deletion_quiet k = by (k % 10 == 9)
   where
-    line : IsQuiet (kinds.Write (codes "A") (Delete (person k)))
+    line : IsQuiet (kinds.Calls (codes "A") (calls.Write (Delete (person k))))
     line = record { none = λ seen has. bound_among seen (codes "A") has one_a; allowed = delete_allowed (codes "A") (0x1000 + k) refl; same = λ seen. refl }
 
-    by : (b : Bool) → AreQuiet (if b then kinds.Write (codes "A") (Delete (person k)) ∷ [] else [])
+    by : (b : Bool) → AreQuiet (if b then kinds.Calls (codes "A") (calls.Write (Delete (person k))) ∷ [] else [])
     by true = (line, tt)
     by false = tt
 

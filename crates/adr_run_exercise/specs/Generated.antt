@@ -6,7 +6,8 @@ use Rattle.std.specs.List.{range_with_len, flat_map}
 use Rattle.adr_values.specs.declared.content.Value.TheVariants.{Text, Number}
 use Rattle.adr_call.specs.declared.write.Write.TheVariants.{Add, Delete, Link}
 use Rattle.adr_call.specs.declared.event.Event.{Event}
-use Rattle.adr_call.specs.declared.event.Event.TheVariants.{Controller, Time, Write, Ask, Serve, Pull, Cycle, Collect, Backup, Restore}
+use Rattle.adr_call.specs.declared.call.Call.TheVariants.{Write, Collect}
+use Rattle.adr_call.specs.declared.event.Event.TheVariants.{Controller, Time, Calls, Ask, Serve, Pull, Cycle, Backup, Restore}
 
 -- ---- names and numbers
 
@@ -81,7 +82,7 @@ beginning =
     ∷ []
 
 unfoldable pub group_added : ℕ → Event
-group_added g = Write (codes "A") (Add (group g) group_class root (numbered (codes "Group ") g) ((group_type, Number (pos 2) ∷ []) ∷ []))
+group_added g = Calls (codes "A") (Write (Add (group g) group_class root (numbered (codes "Group ") g) ((group_type, Number (pos 2) ∷ []) ∷ [])))
 
 abbrev pub groups : List Event
 groups = map group_added (range_with_len 0 10)
@@ -98,10 +99,10 @@ restored n k =
 
 -- a person is added, and linked to a group, at the controllers by turns
 unfoldable pub person_added : ℕ → Event
-person_added k = Write (controller (k % 4)) (Add (person k) user root (numbered (codes "Person ") k) ((account_name, Text (numbered (codes "p") k) ∷ []) ∷ []))
+person_added k = Calls (controller (k % 4)) (Write (Add (person k) user root (numbered (codes "Person ") k) ((account_name, Text (numbered (codes "p") k) ∷ []) ∷ [])))
 
 unfoldable pub person_linked : ℕ → Event
-person_linked k = Write (controller (k % 4)) (Link (group (k % 10)) member (person k))
+person_linked k = Calls (controller (k % 4)) (Write (Link (group (k % 10)) member (person k)))
 
 -- one controller pulls from another, or it asks, is answered, and the reply is lost
 unfoldable pub lost : ℕ → ℕ → ℕ → List Event
@@ -130,13 +131,13 @@ persons n = flat_map (person_lines n) (range_with_len 0 (5 * n))
 
 -- every tenth person is deleted
 unfoldable pub person_deleted : ℕ → List Event
-person_deleted k = if k % 10 == 9 then Write (codes "A") (Delete (person k)) ∷ [] else []
+person_deleted k = if k % 10 == 9 then Calls (codes "A") (Write (Delete (person k))) ∷ [] else []
 
 abbrev pub deletions : ℕ → List Event
 deletions n = Time 2000 ∷ flat_map person_deleted (range_with_len 0 (5 * n))
 
 unfoldable pub collections : List Event
-collections = Time 100000 ∷ Collect (codes "A") 5000 ∷ Collect (codes "B") 5000 ∷ Collect (codes "C") 5000 ∷ Collect (codes "D") 5000 ∷ []
+collections = Time 100000 ∷ Calls (codes "A") (Collect 5000) ∷ Calls (codes "B") (Collect 5000) ∷ Calls (codes "C") (Collect 5000) ∷ Calls (codes "D") (Collect 5000) ∷ []
 
 -- ---- the schedule
 

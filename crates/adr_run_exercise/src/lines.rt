@@ -1,11 +1,12 @@
 //! The lines of the schedule that don't depend on its number.
 
 ghost use Rattle.std.specs.Prelude.{◌≡◌, ◌++◌, ◌∷◌, [], ◌<◌, IfOk, OnOk};
+ghost use Rattle.adr_call.specs.declared.call.Call.TheVariants as calls;
 ghost use Rattle.adr_call.specs.declared.event.Event.TheVariants as kinds;
 ghost use Rattle.adr_run_exercise.specs.Generated.{beginning, collections, group_added, groups, identifier, round, rounds};
 
 use crate::words::{group, identifier, numbered, root};
-use adr_call::{Event, Write};
+use adr_call::{Call, Event, Write};
 use adr_values::{Assignments, NoMemory, Text, Value};
 use std::alloc::{AllocError, Global};
 
@@ -92,14 +93,14 @@ pub fn push_cycle(
 
 /// Adds a collection.
 fn push_collection(alloc: Global, events: &mut Vec<Event>, name: &str) -> Result<(), NoMemory>
-    ensures { OnOk result (events.new.items ≡ events.old.items ++ kinds.Collect name.now 5000 ∷ []) }
+    ensures { OnOk result (events.new.items ≡ events.old.items ++ kinds.Calls name.now (calls.Collect 5000) ∷ []) }
 {
     let name = Text::from_str(alloc, name)?;
     push(
         events,
-        Event::Collect {
+        Event::Calls {
             name,
-            lifetime: 5000,
+            what: Call::Collect { lifetime: 5000 },
         },
     )
 }
@@ -154,7 +155,13 @@ fn push_group(alloc: Global, events: &mut Vec<Event>, g: u64) -> Result<(), NoMe
         text,
         values,
     };
-    push(events, Event::Write { name, what })
+    push(
+        events,
+        Event::Calls {
+            name,
+            what: Call::Write(what),
+        },
+    )
 }
 
 /// Adds ten groups.

@@ -7,7 +7,7 @@ ghost use Rattle.adr_run_exercise.specs.Generated.{backed_up, controller, deleti
 use crate::generator::Generator;
 use crate::lines::{one_value, push, push_cycle, push_time};
 use crate::words::{controller, group, identifier, numbered, person, root};
-use adr_call::{Event, Write};
+use adr_call::{Call, Event, Write};
 use adr_values::{NoMemory, Text, Value};
 use std::alloc::Global;
 
@@ -73,7 +73,13 @@ fn push_added(alloc: Global, events: &mut Vec<Event>, k: u128) -> Result<(), NoM
         text,
         values,
     };
-    push(events, Event::Write { name, what })
+    push(
+        events,
+        Event::Calls {
+            name,
+            what: Call::Write(what),
+        },
+    )
 }
 
 /// Adds the line that links a person to a group.
@@ -88,7 +94,13 @@ fn push_linked(alloc: Global, events: &mut Vec<Event>, k: u128) -> Result<(), No
         attr: MEMBER,
         to: person(k),
     };
-    push(events, Event::Write { name, what })
+    push(
+        events,
+        Event::Calls {
+            name,
+            what: Call::Write(what),
+        },
+    )
 }
 
 /// Adds a request.
@@ -261,7 +273,13 @@ fn push_deleted(alloc: Global, events: &mut Vec<Event>, k: u128) -> Result<(), N
     if k % 10 == 9 {
         let name = Text::from_str(alloc, "A")?;
         let what = Write::Delete { guid: person(k) };
-        push(events, Event::Write { name, what })?;
+        push(
+            events,
+            Event::Calls {
+                name,
+                what: Call::Write(what),
+            },
+        )?;
     }
     Ok(())
 }

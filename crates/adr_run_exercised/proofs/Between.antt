@@ -2,6 +2,7 @@
 use Rattle.std.proofs.Common.{◌≡◌, ◌⊎◌, inl, inr, ⊎_elim, ℕ, List, [], ◌∷◌, true, false, Ok, refl, sym, ap, ◌∙◌, subst, arith}
 use Rattle.std.specs.Prelude.{codes}
 use Rattle.std.specs.Str.{bytes_eq}
+use Rattle.adr_call.specs.declared.call.Call.TheVariants as calls
 use Rattle.adr_call.specs.declared.event.Event.{Event}
 use Rattle.adr_call.specs.declared.event.Event.TheVariants as events
 use Rattle.adr_values.specs.Vector.{Cursors, at, at_most}
@@ -94,10 +95,10 @@ module _ (one : Cursors) (names : List Name) where
     λ none. same,
   )
 
-  collects_after : (done : List Name) (w : World) → IsSoundWorld w → (name : Name) (lifetime : ℕ) → (Member name done → ⊥) → AreAfter done w → AreAfter (name ∷ done) (step w (events.Collect name lifetime)).0
+  collects_after : (done : List Name) (w : World) → IsSoundWorld w → (name : Name) (lifetime : ℕ) → (Member name done → ⊥) → AreAfter done w → AreAfter (name ∷ done) (step w (events.Calls name (calls.Collect lifetime))).0
   collects_after done w sound name lifetime fresh were q m is = by (left.1 q m)
     where
-      left : ((step w (events.Collect name lifetime)).0.book.issued ≡ w.book.issued) × Each (IsLeft w name Collects) (step w (events.Collect name lifetime)).0.replicas
+      left : ((step w (events.Calls name (calls.Collect lifetime))).0.book.issued ≡ w.book.issued) × Each (IsLeft w name Collects) (step w (events.Calls name (calls.Collect lifetime))).0.replicas
       left = collecting_case w sound name lifetime Collects
           (λ r n. (everywhere_from_at_most r.safe.store.purged r.safe.store.vector (sound.replicas r n).safe.store.formed.purged_within, λ i. omega arith))
           (λ r n c e. collection_within w sound lifetime r n c e)
@@ -113,14 +114,14 @@ module _ (one : Cursors) (names : List Name) where
   abbrev pub AreFresh : List Name → List Event → Type 0
   AreFresh done [] = Unit {0}
   AreFresh done (events.Time now ∷ es) = AreFresh done es
-  AreFresh done (events.Collect name lifetime ∷ es) = (Member name done → ⊥) × AreFresh (name ∷ done) es
+  AreFresh done (events.Calls name (calls.Collect lifetime) ∷ es) = (Member name done → ⊥) × AreFresh (name ∷ done) es
   AreFresh done (e ∷ es) = ⊥
 
   pub between_behind : (done : List Name) (es : List Event) (w : World) → IsSoundWorld w → AreFresh done es → AreAfter done w → AreBetween (at one) names (after_lines w es)
   between_behind done [] w sound fresh were = λ r m is. (were r m is).0
   between_behind done (events.Time now ∷ es) w sound fresh were = between_behind done es (step w (events.Time now)).0 (collecting_sound w sound (events.Time now) tt) fresh were
-  between_behind done (events.Collect name lifetime ∷ es) w sound fresh were =
-      between_behind (name ∷ done) es (step w (events.Collect name lifetime)).0 (collecting_sound w sound (events.Collect name lifetime) tt) fresh.1 (collects_after done w sound name lifetime fresh.0 were)
+  between_behind done (events.Calls name (calls.Collect lifetime) ∷ es) w sound fresh were =
+      between_behind (name ∷ done) es (step w (events.Calls name (calls.Collect lifetime))).0 (collecting_sound w sound (events.Calls name (calls.Collect lifetime)) tt) fresh.1 (collects_after done w sound name lifetime fresh.0 were)
   between_behind done (e ∷ es) w sound fresh were = absurd fresh
 
   pub collections_fresh : AreFresh [] collections

@@ -5,6 +5,7 @@ use Rattle.adr_call.specs.declared.outcome.Outcome.TheVariants as outcomes
 use Rattle.adr_call.specs.declared.refusal.Table.TheVariants.{Log}
 use Rattle.adr_call.specs.declared.refusal.CollectRefusal.{CollectRefusal}
 use Rattle.adr_disk.specs.declared.memory.Crash.TheVariants.{Kept, Lost, Torn}
+use Rattle.adr_call.specs.declared.call.Call.TheVariants as calls
 use Rattle.adr_call.specs.declared.event.Event.{Event}
 use Rattle.adr_call.specs.declared.event.Event.TheVariants as events
 use Rattle.adr_values.specs.declared.stamp.Oid.{Oid}
@@ -19,8 +20,9 @@ use Rattle.adr_model.specs.Lengths.{change_fits, log_limit}
 use Rattle.adr_model.specs.Collect.{deaths_to_collect, collection, collect}
 use Rattle.adr_model.specs.Refused.{full, collect_refused}
 use Rattle.adr_disk.specs.declared.memory.Mishap.TheVariants.{Fails, Stops}
+use Rattle.adr_model.specs.Client.{collected, done}
 use Rattle.adr_model.specs.Replica.{Pending, ToCollect, issued_by, Up, Failed, Replica, Book, Move, Begin, Settle, Forget, moved, Went, Passed, Met, moves_of_commit, standing_after, commit_goes, device_after_commit}
-use Rattle.adr_model.specs.World.{Name, World, Gone, stays, with_replica, committed, of_controller, after_collect}
+use Rattle.adr_model.specs.World.{Name, World, Gone, stays, with_replica, committed, after_call, does}
 use Rattle.adr_model.specs.Step.{step, after_lines}
 use Rattle.adr_model.specs.Sound.{IsSoundState, IsSoundWorld}
 use Rattle.adr_law_knowledge.specs.Grows.{Keeps}
@@ -156,23 +158,23 @@ module _ (w : World) (sound : IsSoundWorld w) (name : Name) (lifetime : ℕ) (P 
           (λ t. inl t.0)
           (in_place w.replicas next q k)
 
-  collected : (r : Replica) → Member r w.replicas → r.name ≡ name → r.standing ≡ Up → (t : Result Change CollectRefusal) → collect r.safe w.time lifetime ≡ t → Leaves (after_collect w r lifetime t)
-  collected r there called up (Err x) e = stays_still (collect_refused x)
-  collected r there called up (Ok c) e = let p : Pending = record { call = ToCollect w.time lifetime; change = c } in
+  gathered : (r : Replica) → Member r w.replicas → r.name ≡ name → r.standing ≡ Up → (t : Result Change CollectRefusal) → collect r.safe w.time lifetime ≡ t → Leaves (after_call w r (ToCollect w.time lifetime) (collected t))
+  gathered r there called up (Err x) e = stays_still (collect_refused x)
+  gathered r there called up (Ok c) e = let p : Pending = record { call = ToCollect w.time lifetime; change = c } in
       within_case Leaves w (change_fits r.device.safe_log r.safe.store c) (committed w r p (outcomes.Removed (length c.removed))) (stays_still (full Log log_limit)) (commits r there called up c e)
 
-  pub collecting_case : Leaves (of_controller w name (stays w) (λ r. after_collect w r lifetime (collect r.safe w.time lifetime)))
-  collecting_case = reached_case Leaves w name (stays w) stays_still (λ r. after_collect w r lifetime (collect r.safe w.time lifetime)) (λ r is up. collected r is.there is.name up (collect r.safe w.time lifetime) refl)
+  pub collecting_case : Leaves (does w name (ToCollect w.time lifetime))
+  collecting_case = reached_case Leaves w name (stays w) stays_still (λ r. after_call w r (ToCollect w.time lifetime) (done r.safe (ToCollect w.time lifetime))) (λ r is up. gathered r is.there is.name up (collect r.safe w.time lifetime) refl)
 
 -- nothing was issued, and each controller comes of the one of its name
 record Follows (w v : World) : Type 0 where
   issued : v.book.issued ≡ w.book.issued
   each : Each (λ q. (r : Replica) × Member r w.replicas × (r.name ≡ q.name) × ComesOf w.book.issued r.safe.store q.safe.store) v.replicas
 
-collects : (w : World) → IsSoundWorld w → (name : Name) (lifetime : ℕ) → Follows w (step w (events.Collect name lifetime)).0
+collects : (w : World) → IsSoundWorld w → (name : Name) (lifetime : ℕ) → Follows w (step w (events.Calls name (calls.Collect lifetime))).0
 collects w sound name lifetime = record { issued = t.0; each = λ q m. by q (t.1 q m) }
   where
-    t : ((step w (events.Collect name lifetime)).0.book.issued ≡ w.book.issued) × Each (IsLeft w name (λ r s. ComesOf w.book.issued r.safe.store s.store)) (step w (events.Collect name lifetime)).0.replicas
+    t : ((step w (events.Calls name (calls.Collect lifetime))).0.book.issued ≡ w.book.issued) × Each (IsLeft w name (λ r s. ComesOf w.book.issued r.safe.store s.store)) (step w (events.Calls name (calls.Collect lifetime))).0.replicas
     t = collecting_case w sound name lifetime (λ r s. ComesOf w.book.issued r.safe.store s.store) (λ r there. of_itself w.book.issued r.safe.store) (λ r there c e. collection_comes w sound r there lifetime c e)
 
     by : (q : Replica) → IsLeft w name (λ r s. ComesOf w.book.issued r.safe.store s.store) q → (r : Replica) × Member r w.replicas × (r.name ≡ q.name) × ComesOf w.book.issued r.safe.store q.safe.store
@@ -183,7 +185,7 @@ collects w sound name lifetime = record { issued = t.0; each = λ q m. by q (t.1
 
 abbrev pub IsCollecting : Event → Type 0
 IsCollecting (events.Time now) = Unit {0}
-IsCollecting (events.Collect name lifetime) = Unit {0}
+IsCollecting (events.Calls name (calls.Collect lifetime)) = Unit {0}
 IsCollecting e = ⊥
 
 -- the time is told, or a controller collects
@@ -193,7 +195,7 @@ AreCollecting (e ∷ es) = IsCollecting e × AreCollecting es
 
 collecting_follows : (w : World) → IsSoundWorld w → (e : Event) → IsCollecting e → Follows w (step w e).0 × IsSoundWorld (step w e).0
 collecting_follows w sound (events.Time now) is = (record { issued = refl; each = λ q m. (q, m, refl, of_itself w.book.issued q.safe.store) }, step_sound w sound (events.Time now) tt sound.clean)
-collecting_follows w sound (events.Collect name lifetime) is = (collects w sound name lifetime, step_sound w sound (events.Collect name lifetime) tt ((step_keeps w (events.Collect name lifetime)).alike refl ∙ sound.clean))
+collecting_follows w sound (events.Calls name (calls.Collect lifetime)) is = (collects w sound name lifetime, step_sound w sound (events.Calls name (calls.Collect lifetime)) tt ((step_keeps w (events.Calls name (calls.Collect lifetime))).alike refl ∙ sound.clean))
 collecting_follows w sound e is = absurd is
 
 pub collecting_sound : (w : World) → IsSoundWorld w → (e : Event) → IsCollecting e → IsSoundWorld (step w e).0

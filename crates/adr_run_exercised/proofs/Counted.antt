@@ -3,6 +3,7 @@ use Rattle.std.proofs.Common.{◌≡◌, ℕ, zero, suc, ◌+◌, ◌*◌, ◌/�
 use Rattle.std.specs.Prelude.{◌==◌, if◌then◌else◌, codes}
 use Rattle.std.specs.List.{range_with_len, flat_map}
 use Rattle.adr_call.specs.declared.write.Write.TheVariants.{Delete}
+use Rattle.adr_call.specs.declared.call.Call.TheVariants as calls
 use Rattle.adr_call.specs.declared.event.Event.{Event}
 use Rattle.adr_call.specs.declared.event.Event.TheVariants as events
 use Rattle.adr_run_exercise.specs.Generated.{controller, identifier, person, round, rounds, beginning, group_added, groups, backed_up, restored, person_added, person_linked, lost, exchanged, met, exchange, drawn, state, person_lines, persons, person_deleted, deletions, collections}
@@ -101,7 +102,7 @@ deleted_writes : (k : ℕ) → writes_in (person_deleted k) ≤ 1
 unfolding person_deleted
 deleted_writes k = by (k % 10 == 9)
   where
-    by : (b : Bool) → writes_in (if b then events.Write (codes "A") (Delete (person k)) ∷ [] else []) ≤ 1
+    by : (b : Bool) → writes_in (if b then events.Calls (codes "A") (calls.Write (Delete (person k))) ∷ [] else []) ≤ 1
     by true = omega arith
     by false = omega arith
 

@@ -6,6 +6,7 @@ use Rattle.adr_call.specs.declared.refusal.AdoptRefusal.{AdoptRefusal}
 use Rattle.adr_call.specs.declared.write.Write.{Write as Asked}
 use Rattle.adr_call.specs.declared.write.Write.TheVariants as asked
 use Rattle.adr_disk.specs.declared.memory.Crash.TheVariants.{Kept, Lost, Torn}
+use Rattle.adr_call.specs.declared.call.Call.TheVariants as calls
 use Rattle.adr_call.specs.declared.event.Event.{Event}
 use Rattle.adr_call.specs.declared.event.Event.TheVariants as events
 use Rattle.adr_values.specs.Assignments.{Given}
@@ -37,7 +38,7 @@ use Rattle.adr_law_knowledge.proofs.Counting.{no_longer}
 use Rattle.adr_law_knowledge.proofs.Lists.{filter_rises, sorted_rises}
 use Rattle.adr_law_knowledge.proofs.Refusing.{answered}
 use Rattle.adr_law_calls.proofs.Candidates.{unit_of_row}
-use Rattle.adr_law_convergence.proofs.Called.{IsKeptBehind, writes_so, asks_so, serves_so, delivers_so, collects_so, backs_up_so}
+use Rattle.adr_law_convergence.proofs.Called.{IsKeptBehind, calls_so, asks_so, serves_so, delivers_so, backs_up_so}
 use Rattle.adr_law_convergence.proofs.Calls.{in_change}
 use Rattle.adr_law_convergence.proofs.Exchanges.{IsKeptByCalls, worlds_alone, pull_so, pulls_so}
 use Rattle.adr_law_convergence.proofs.Found.{same_name_tests, still_there}
@@ -213,7 +214,7 @@ writing_one k w ready few = keeps (k + 1) IsWriteOfOne w ready (of_more k (k + 1
 
 -- how many lines write
 abbrev pub is_write : Event → ℕ
-is_write (events.Write name what) = 1
+is_write (events.Calls name (calls.Write what)) = 1
 is_write e = 0
 
 abbrev pub writes_in : List Event → ℕ
@@ -258,12 +259,12 @@ module _ (names : List Name) (k : ℕ) where
       by : (e : Event) → IsMild true e → Each IsReady (step w e).0.replicas → AreOfFew (k + is_write e) (step w e).0.book.issued
       by (events.Controller name dsa inv) mild ready = no_more w.book.issued is.1
       by (events.Time now) mild ready = no_more w.book.issued is.1
-      by (events.Write name what) mild ready = writes_so (Issues (k + 1)) IsWriteOfOne w (writing_one k w is.0.ready is.1) name (write_meant what) (meant_is_of_one_item what) ready
+      by (events.Calls name (calls.Write what)) mild ready = calls_so (Issues (k + 1)) IsWriteOfOne w (writing_one k w is.0.ready is.1) name (ToWrite (write_meant what) w.time) (meant_is_of_one_item what) ready
       by (events.Ask name partner max version bind) mild ready = no_more _ (asks_so (Issues k) IsSilent w kept name partner max version ready)
       by (events.Serve name request bind) mild ready = no_more _ (serves_so (Issues k) IsSilent w kept name (bound_at w.requests request) tt ready)
       by (events.Pull name source max) mild ready = no_more _ (pull_so MannedFew (λ v q. Unit {0}) (λ v r. Unit {0}) (λ o. Unit {0}) keeps_few name source max w is).0.1
       by (events.Cycle name source max) mild ready = no_more _ (pulls_so MannedFew (λ v q. Unit {0}) (λ v r. Unit {0}) (λ o. Unit {0}) keeps_few name source max reply_limit w is).0.1
-      by (events.Collect name lifetime) mild ready = no_more _ (collects_so (Issues k) IsSilent w kept name lifetime tt ready)
+      by (events.Calls name (calls.Collect lifetime)) mild ready = no_more _ (calls_so (Issues k) IsSilent w kept name (ToCollect w.time lifetime) tt ready)
       by (events.Backup name bind) mild ready = no_more _ (backs_up_so (Issues k) IsSilent w kept name ready)
       by (events.Restore name image inv) mild ready = no_more _ (adopting_few (gives w [] (inv ∷ [])) is.1 name (bound_at w.images image) inv)
       by e mild ready = absurd mild

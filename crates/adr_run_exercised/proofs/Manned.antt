@@ -3,13 +3,12 @@ use Rattle.std.proofs.Common.{◌≡◌, ◌⊎◌, inl, inr, ⊎_elim, ◌+◌,
 use Rattle.std.specs.Str.{bytes_eq}
 use Rattle.adr_call.specs.declared.outcome.Outcome.{Outcome}
 use Rattle.adr_call.specs.declared.outcome.Outcome.TheVariants as outcomes
-use Rattle.adr_call.specs.declared.refusal.WriteRefusal.{WriteRefusal}
 use Rattle.adr_call.specs.declared.refusal.ServeRefusal.{ServeRefusal}
 use Rattle.adr_call.specs.declared.refusal.ServeRefusal.TheVariants as serves
 use Rattle.adr_call.specs.declared.refusal.TakeRefusal.{TakeRefusal}
 use Rattle.adr_call.specs.declared.refusal.TakeRefusal.TheVariants as takes
-use Rattle.adr_call.specs.declared.refusal.CollectRefusal.{CollectRefusal}
 use Rattle.adr_call.specs.declared.refusal.AdoptRefusal.{AdoptRefusal}
+use Rattle.adr_call.specs.declared.call.Call.TheVariants as calls
 use Rattle.adr_call.specs.declared.event.Event.{Event}
 use Rattle.adr_call.specs.declared.event.Event.TheVariants as events
 use Rattle.adr_model.specs.Member.{Member, Each}
@@ -18,13 +17,14 @@ use Rattle.adr_model.specs.Store.{Store, State, empty_state}
 use Rattle.adr_model.specs.Change.{Change}
 use Rattle.adr_model.specs.Lengths.{new_log, area_fits, change_fits}
 use Rattle.adr_model.specs.Serve.{Request, Reply, serve}
-use Rattle.adr_model.specs.Write.{Write, write_meant, write}
+use Rattle.adr_model.specs.Write.{Write, write_meant}
 use Rattle.adr_model.specs.Take.{take}
-use Rattle.adr_model.specs.Collect.{collect, backup, adopt, quarantine}
+use Rattle.adr_model.specs.Collect.{backup, adopt, quarantine}
 use Rattle.adr_model.specs.Refused.{serve_refused, take_refused}
 use Rattle.adr_disk.specs.declared.memory.Plan.{Plan}
-use Rattle.adr_model.specs.Replica.{Pending, ToWrite, ToTake, ToCollect, ToQuarantine, Up, Failed, Replica, on_new_disk, begun, moved, went, behind, calls_before, moves_of_commit, standing_after, commit_goes, device_after_commit}
-use Rattle.adr_model.specs.World.{Name, World, Gone, Sent, stays, nothing, bound_at, replica_at, with_replica, of_made, of_controller, of_image, committed, commit, quarantines, after_write, writes, after_collect, asks, after_serve, served, serves_request, after_take, delivered, delivers, backed_up, adopts}
+use Rattle.adr_model.specs.Client.{Done, done}
+use Rattle.adr_model.specs.Replica.{Call, Pending, ToWrite, ToTake, ToCollect, ToQuarantine, Up, Failed, Replica, on_new_disk, begun, moved, went, behind, calls_before, moves_of_commit, standing_after, commit_goes, device_after_commit}
+use Rattle.adr_model.specs.World.{Name, World, Gone, Sent, stays, nothing, bound_at, replica_at, with_replica, of_made, of_controller, of_image, committed, commit, quarantines, asks, after_serve, served, serves_request, after_take, delivered, delivers, backed_up, adopts, after_call, does}
 use Rattle.adr_model.specs.Cycles.{pull, pulls, reply_limit, pull_version}
 use Rattle.adr_model.specs.Step.{gives, step, after_lines}
 use Rattle.adr_model.proofs.Members.{member_left, member_of_either}
@@ -95,19 +95,12 @@ module _ (names : List Name) where
     quarantining : (r : Replica) → Member r w.replicas → (outcome : Outcome) → Leaves (quarantines w r outcome)
     quarantining r there outcome = commits r there (record { call = ToQuarantine; change = quarantine r.safe }) outcome
 
-    wrote : (r : Replica) → Member r w.replicas → (what : Write) (t : Result Change WriteRefusal) → Leaves (after_write w r what t)
-    wrote r there what (Err x) = are
-    wrote r there what (Ok c) = commits r there (record { call = ToWrite what w.time; change = c }) (outcomes.Usn c.usn)
+    called : (r : Replica) → Member r w.replicas → (call : Call) (d : Done) → Leaves (after_call w r call d)
+    called r there call (told, None) = are
+    called r there call (told, Some c) = commits r there (record { call = call; change = c }) told
 
-    writing : (name : Name) (what : Write) → Leaves (writes w name what)
-    writing name what = reached_case Leaves w name (stays w) (λ x. are) (λ r. after_write w r what (write r.safe what w.time)) (λ r called up. wrote r called.there what (write r.safe what w.time))
-
-    collected : (r : Replica) → Member r w.replicas → (lifetime : ℕ) (t : Result Change CollectRefusal) → Leaves (after_collect w r lifetime t)
-    collected r there lifetime (Err x) = are
-    collected r there lifetime (Ok c) = commits r there (record { call = ToCollect w.time lifetime; change = c }) (outcomes.Removed (length c.removed))
-
-    collecting : (name : Name) (lifetime : ℕ) → Leaves (of_controller w name (stays w) (λ r. after_collect w r lifetime (collect r.safe w.time lifetime)))
-    collecting name lifetime = reached_case Leaves w name (stays w) (λ x. are) (λ r. after_collect w r lifetime (collect r.safe w.time lifetime)) (λ r called up. collected r called.there lifetime (collect r.safe w.time lifetime))
+    doing : (name : Name) (call : Call) → Leaves (does w name call)
+    doing name call = reached_case Leaves w name (stays w) (λ x. are) (λ r. after_call w r call (done r.safe call)) (λ r reached up. called r reached.there call (done r.safe call))
 
     pub asking : (name partner : Name) (max version : ℕ) → LeavesSent (asks w name partner max version)
     asking name partner max version =
@@ -171,12 +164,12 @@ module _ (names : List Name) where
   pub stays_manned : (w : World) → Manned w → (e : Event) → IsMild true e → Manned (step w e).0
   stays_manned w are (events.Controller name dsa inv) is = joined w.replicas (on_new_disk name (empty_state dsa inv)) (refl, refl) are
   stays_manned w are (events.Time now) is = are
-  stays_manned w are (events.Write name what) is = writing w are name (write_meant what)
+  stays_manned w are (events.Calls name (calls.Write what)) is = doing w are name (ToWrite (write_meant what) w.time)
   stays_manned w are (events.Ask name partner max version bind) is = asking w are name partner max version
   stays_manned w are (events.Serve name request bind) is = serving w are name (bound_at w.requests request)
   stays_manned w are (events.Pull name source max) is = pulling_manned name source max w are
   stays_manned w are (events.Cycle name source max) is = cycling_manned name source max reply_limit w are
-  stays_manned w are (events.Collect name lifetime) is = collecting w are name lifetime
+  stays_manned w are (events.Calls name (calls.Collect lifetime)) is = doing w are name (ToCollect w.time lifetime)
   stays_manned w are (events.Backup name bind) is = backing_up w are name
   stays_manned w are (events.Restore name image inv) is = restoring (gives w [] (inv ∷ [])) are name (bound_at w.images image) inv
   stays_manned w are e is = absurd is

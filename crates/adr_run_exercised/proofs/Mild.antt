@@ -3,6 +3,7 @@ use Rattle.std.proofs.Common.{◌≡◌, inl, inr, ℕ, zero, suc, ◌+◌, ◌*
 use Rattle.std.specs.Prelude.{◌==◌, if◌then◌else◌, codes}
 use Rattle.std.specs.List.{range_with_len, flat_map}
 use Rattle.adr_call.specs.declared.write.Write.TheVariants.{Delete}
+use Rattle.adr_call.specs.declared.call.Call.TheVariants as calls
 use Rattle.adr_call.specs.declared.event.Event.{Event}
 use Rattle.adr_call.specs.declared.event.Event.TheVariants as events
 use Rattle.adr_model.specs.World.{World}
@@ -14,12 +15,12 @@ use Rattle.adr_run_exercise.specs.Generated.{controller, identifier, person, rou
 abbrev pub IsMild : Bool → Event → Type 0
 IsMild collects (events.Controller name dsa inv) = Unit {0}
 IsMild collects (events.Time now) = Unit {0}
-IsMild collects (events.Write name what) = Unit {0}
+IsMild collects (events.Calls name (calls.Write what)) = Unit {0}
 IsMild collects (events.Ask name partner max version bind) = Unit {0}
 IsMild collects (events.Serve name request bind) = Unit {0}
 IsMild collects (events.Pull name source max) = Unit {0}
 IsMild collects (events.Cycle name source max) = Unit {0}
-IsMild collects (events.Collect name lifetime) = collects ≡ true
+IsMild collects (events.Calls name (calls.Collect lifetime)) = collects ≡ true
 IsMild collects (events.Backup name bind) = Unit {0}
 IsMild collects (events.Restore name image inv) = Unit {0}
 IsMild collects e = ⊥
@@ -114,7 +115,7 @@ module _ (collects : Bool) where
 
   deleted_mild : (k : ℕ) → AreMild collects (person_deleted k)
   unfolding person_deleted
-  deleted_mild k = mild_where (k % 10 == 9) (events.Write (codes "A") (Delete (person k)) ∷ []) (tt, tt)
+  deleted_mild k = mild_where (k % 10 == 9) (events.Calls (codes "A") (calls.Write (Delete (person k))) ∷ []) (tt, tt)
 
   deletions_mild : (n : ℕ) → AreMild collects (deletions n)
   deletions_mild n = (tt, mild_range person_deleted deleted_mild (5 * n) 0)
@@ -134,12 +135,12 @@ collections_mild = (tt, (refl, (refl, (refl, (refl, tt)))))
 mild_put_nothing_back : (collects : Bool) (e : Event) → IsMild collects e → puts_back e ≡ false
 mild_put_nothing_back collects (events.Controller name dsa inv) is = refl
 mild_put_nothing_back collects (events.Time now) is = refl
-mild_put_nothing_back collects (events.Write name what) is = refl
+mild_put_nothing_back collects (events.Calls name (calls.Write what)) is = refl
 mild_put_nothing_back collects (events.Ask name partner max version bind) is = refl
 mild_put_nothing_back collects (events.Serve name request bind) is = refl
 mild_put_nothing_back collects (events.Pull name source max) is = refl
 mild_put_nothing_back collects (events.Cycle name source max) is = refl
-mild_put_nothing_back collects (events.Collect name lifetime) is = refl
+mild_put_nothing_back collects (events.Calls name (calls.Collect lifetime)) is = refl
 mild_put_nothing_back collects (events.Backup name bind) is = refl
 mild_put_nothing_back collects (events.Restore name image inv) is = refl
 mild_put_nothing_back collects e is = absurd is

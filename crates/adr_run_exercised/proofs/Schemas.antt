@@ -1,5 +1,6 @@
 -- No line of the schedule changes a schema, and only collections change what was collected.
 use Rattle.std.proofs.Common.{◌≡◌, ℕ, List, [], ◌∷◌, true, false, Some, refl, sym, ap, ◌∙◌, subst}
+use Rattle.adr_call.specs.declared.call.Call.TheVariants as calls
 use Rattle.adr_call.specs.declared.event.Event.{Event}
 use Rattle.adr_call.specs.declared.event.Event.TheVariants as events
 use Rattle.adr_values.specs.Vector.{joined}
@@ -59,7 +60,7 @@ schema_rules = record {
 
 pub no_upgrade : (es : List Event) → MayLines IsNoUpgrade es
 no_upgrade [] = tt
-no_upgrade (events.Collect name lifetime ∷ es) = ((λ now. tt), no_upgrade es)
+no_upgrade (events.Calls name (calls.Collect lifetime) ∷ es) = ((λ now. tt), no_upgrade es)
 no_upgrade (e ∷ es) = (tt, no_upgrade es)
 
 -- ---- what was collected
@@ -80,5 +81,5 @@ nothing_rules = record {
 -- lines that are mild without a collection
 pub no_collection : (es : List Event) → AreMild false es → MayLines IsNoCollection es
 no_collection [] mild = tt
-no_collection (events.Collect name lifetime ∷ es) mild = let is : false ≡ true = mild.0 in absurd (cc)
+no_collection (events.Calls name (calls.Collect lifetime) ∷ es) mild = let is : false ≡ true = mild.0 in absurd (cc)
 no_collection (e ∷ es) mild = (tt, no_collection es mild.1)

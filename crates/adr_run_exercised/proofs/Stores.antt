@@ -3,6 +3,7 @@ use Rattle.std.proofs.Common.{◌≡◌, ◌⊎◌, inl, inr, ⊎_elim, ℕ, Lis
 use Rattle.adr_call.specs.declared.outcome.Outcome.TheVariants as outcomes
 use Rattle.adr_call.specs.declared.refusal.AdoptRefusal.{AdoptRefusal}
 use Rattle.adr_call.specs.declared.write.Write.{Write as Asked}
+use Rattle.adr_call.specs.declared.call.Call.TheVariants as calls
 use Rattle.adr_call.specs.declared.event.Event.{Event}
 use Rattle.adr_call.specs.declared.event.Event.TheVariants as events
 use Rattle.adr_model.specs.Member.{Member, Each}
@@ -19,7 +20,7 @@ use Rattle.adr_model.specs.Cycles.{pulls, reply_limit, pull_version}
 use Rattle.adr_model.specs.Step.{gives, step, after_lines}
 use Rattle.adr_model.proofs.Members.{member_of_either}
 use Rattle.adr_law_calls.proofs.Woken.{adopted_is_woken}
-use Rattle.adr_law_convergence.proofs.Called.{IsKeptBehind, writes_so, asks_so, serves_so, delivers_so, collects_so}
+use Rattle.adr_law_convergence.proofs.Called.{IsKeptBehind, calls_so, asks_so, serves_so, delivers_so}
 use Rattle.adr_law_convergence.proofs.Exchanges.{IsKeptByCalls, worlds_alone, pull_so, pulls_so}
 use Rattle.adr_law_convergence.proofs.Found.{bound_member, each_bound, in_place}
 use Rattle.adr_law_convergence.proofs.Moves.{settling, starting, committing}
@@ -41,7 +42,7 @@ AreKept K w = Each (λ r. K r.safe.store × K r.read.store) w.replicas × Each (
 
 -- a collection only where it may be
 abbrev pub MayLine : (Call → Type 0) → Event → Type 0
-MayLine May (events.Collect name lifetime) = (now : ℕ) → May (ToCollect now lifetime)
+MayLine May (events.Calls name (calls.Collect lifetime)) = (now : ℕ) → May (ToCollect now lifetime)
 MayLine May e = Unit {0}
 
 abbrev pub MayLines : (Call → Type 0) → List Event → Type 0
@@ -120,12 +121,12 @@ module _ (K : Store → Type 0) (May : Call → Type 0) (rules : IsKeptOf K May)
   line_kept : (collects : Bool) (w : World) → AreKept K w → (e : Event) → IsMild collects e → MayLine May e → AreKept K (step w e).0
   line_kept collects w kept (events.Controller name dsa inv) mild may = (came w.replicas (on_new_disk name (empty_state dsa inv)) (rules.begins dsa inv, rules.begins dsa inv) kept.0, kept.1)
   line_kept collects w kept (events.Time now) mild may = kept
-  line_kept collects w kept (events.Write name what) mild may = writes_so (AreKept K) May w (keeps w kept) name (write_meant what) (rules.writes what w.time)
+  line_kept collects w kept (events.Calls name (calls.Write what)) mild may = calls_so (AreKept K) May w (keeps w kept) name (ToWrite (write_meant what) w.time) (rules.writes what w.time)
   line_kept collects w kept (events.Ask name partner max version bind) mild may = asks_so (AreKept K) May w (keeps w kept) name partner max version
   line_kept collects w kept (events.Serve name request bind) mild may = serves_so (AreKept K) May w (keeps w kept) name (bound_at w.requests request) rules.shuts
   line_kept collects w kept (events.Pull name source max) mild may = (pull_so (AreKept K) (λ v q. Unit {0}) (λ v r. Unit {0}) (λ o. Unit {0}) keeps_by_calls name source max w kept).0
   line_kept collects w kept (events.Cycle name source max) mild may = cycling_kept name source max reply_limit w kept
-  line_kept collects w kept (events.Collect name lifetime) mild may = collects_so (AreKept K) May w (keeps w kept) name lifetime (may w.time)
+  line_kept collects w kept (events.Calls name (calls.Collect lifetime)) mild may = calls_so (AreKept K) May w (keeps w kept) name (ToCollect w.time lifetime) (may w.time)
   line_kept collects w kept (events.Backup name bind) mild may = backs_up w kept name bind
   line_kept collects w kept (events.Restore name image inv) mild may = restores (gives w [] (inv ∷ [])) kept name image inv
   line_kept collects w kept e mild may = absurd mild

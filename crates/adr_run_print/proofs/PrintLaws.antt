@@ -13,7 +13,8 @@ use Rattle.adr_call.specs.declared.write.Write.TheVariants.{Add, Modify}
 use Rattle.adr_call.specs.declared.report.Report.{Report as Asked}
 use Rattle.adr_call.specs.declared.report.Report.TheVariants.{Meta}
 use Rattle.adr_call.specs.declared.event.Event.{Event}
-use Rattle.adr_call.specs.declared.event.Event.TheVariants.{Write, Ring, StopAfter, Report}
+use Rattle.adr_call.specs.declared.call.Call.TheVariants.{Write}
+use Rattle.adr_call.specs.declared.event.Event.TheVariants.{Calls, Ring, StopAfter, Report}
 use Rattle.adr_call.specs.Verbs.{verb_of, word_of}
 use Rattle.adr_call.specs.declared.verb.Verb.{Verb}
 use Rattle.adr_token.specs.Words.{unspaced}
@@ -111,8 +112,8 @@ asked_seen what = refl
 -- so are the words of an event
 behind_seen : (order : List Given) (e : Event) → list_all is_seen (tokens_behind order e) ≡ true
 unfolding tokens_behind
-behind_seen order (Write name (Add guid class parent text values)) = sets_seen order
-behind_seen order (Write name (Modify guid values)) = sets_seen order
+behind_seen order (Calls name (Write (Add guid class parent text values))) = sets_seen order
+behind_seen order (Calls name (Write (Modify guid values))) = sets_seen order
 behind_seen order (Ring name others rounds max) = names_seen others
 behind_seen order (StopAfter name calls Kept) = refl
 behind_seen order (StopAfter name calls Lost) = refl
@@ -161,8 +162,8 @@ said e h = record { has_line = h.0; printed = are_printed (tokens_of e) (words_s
 
 given_rises : (e : Event) → HasLine e → AreRising (given_by e)
 unfolding IsStrictlySortedBy
-given_rises (Write name (Add guid class parent text values)) h = h
-given_rises (Write name (Modify guid values)) h = h.0
+given_rises (Calls name (Write (Add guid class parent text values))) h = h
+given_rises (Calls name (Write (Modify guid values))) h = h.0
 given_rises e h = tt
 
 said_spells : (e : Event) → IsSaid e → Spells (line_of e) e

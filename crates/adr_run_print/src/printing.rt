@@ -3,11 +3,11 @@
 ghost use Rattle.std.specs.Prelude.{◌≡◌, ◌++◌, ◌∷◌, [], IfOk, OnOk, codes, map};
 ghost use Rattle.adr_token.specs.Spelling.{set_token};
 ghost use Rattle.adr_schedule.specs.Crashes.{crash_word};
-ghost use Rattle.adr_schedule.specs.Grammar.{Attribute as attributed, Class as classed, Identifier as identified, Name as named, Number as numbered, Quoted as quoted, Word as said, given_by, given_in, named as names_of, sets, tokens_asked, tokens_behind, tokens_written};
+ghost use Rattle.adr_schedule.specs.Grammar.{Attribute as attributed, Class as classed, Identifier as identified, Name as named, Number as numbered, Quoted as quoted, Word as said, given_by, given_for, given_in, named as names_of, sets, tokens_asked, tokens_behind, tokens_called, tokens_written};
 ghost use Rattle.adr_run_print.specs.Printed.{line_of, printed, set_tokens, spaced, token_of, token_text};
 
 use Token::{Attribute, Class, Identifier, Name, Number, Quoted, Word};
-use adr_call::{Event, Report, Write};
+use adr_call::{Call, Event, Report, Write};
 use adr_disk::Crash;
 use adr_schedule::crash_word;
 use adr_token::{
@@ -381,6 +381,18 @@ fn push_write(out: &mut Vec<u8>, name: &Text, what: &Write) -> Result<(), NoMemo
     }
 }
 
+/// NAME and what stands behind it, of what a client has a controller do.
+fn push_called(out: &mut Vec<u8>, name: &Text, what: &Call) -> Result<(), NoMemory>
+    ensures { OnOk result (out.new.items
+        ≡ out.old.items ++ spaced (map token_text (named name.now ∷ tokens_called (given_for what.now) what.now))) }
+{
+    match what {
+        Call::Write(what) => push_write(out, name, what),
+        Call::Collect { lifetime } => push_collected(out, name, *lifetime),
+        Call::Upgrade => push_tokens(out, &[Name(name)]),
+    }
+}
+
 /// NAME, and what else a report wants.
 fn push_reported(out: &mut Vec<u8>, name: &Text, what: Report) -> Result<(), NoMemory>
     ensures { OnOk result (out.new.items
@@ -402,7 +414,7 @@ fn push_behind(out: &mut Vec<u8>, event: &Event) -> Result<(), NoMemory>
     match event {
         Event::Controller { name, dsa, inv } => push_controller(out, name, *dsa, *inv),
         Event::Time { now } => push_tokens(out, &[Number(*now)]),
-        Event::Write { name, what } => push_write(out, name, what),
+        Event::Calls { name, what } => push_called(out, name, what),
         Event::Ask {
             name,
             partner,
@@ -425,8 +437,7 @@ fn push_behind(out: &mut Vec<u8>, event: &Event) -> Result<(), NoMemory>
             rounds,
             max,
         } => push_ring(out, name, others.items(), *rounds, *max),
-        Event::Collect { name, lifetime } => push_collected(out, name, *lifetime),
-        Event::Upgrade { .. } | Event::Revive { .. } => Ok(()),
+        Event::Revive { .. } => Ok(()),
         Event::Backup { name, bound } | Event::Snapshot { name, bound } => {
             push_copied(out, name, bound)
         }

@@ -1,28 +1,26 @@
 -- What calls of a controller come to, as the definitions say.
-use Rattle.std.proofs.Common.{◌≡◌, ◌∙◌, refl, sym, ap, ℕ, Bool, Option, Some, None, Result, Ok, Err, length, is_some}
+use Rattle.std.proofs.Common.{◌≡◌, ◌∙◌, refl, sym, ap, subst, ℕ, Bool, Option, Some, None, Result, Ok, Err, length, is_some}
 use Rattle.std.specs.Option.{option_map}
 use Rattle.adr_call.specs.declared.outcome.Outcome.{Outcome}
 use Rattle.adr_call.specs.declared.outcome.Outcome.TheVariants as outcomes
-use Rattle.adr_call.specs.declared.write.Write.{Write as Asked}
-use Rattle.adr_call.specs.declared.refusal.WriteRefusal.{WriteRefusal}
-use Rattle.adr_call.specs.declared.refusal.CollectRefusal.{CollectRefusal}
+use Rattle.adr_call.specs.declared.call.Call.{Call as Asked}
 use Rattle.adr_call.specs.declared.refusal.ServeRefusal.{ServeRefusal}
 use Rattle.adr_call.specs.declared.refusal.ServeRefusal.TheVariants as serves
 use Rattle.adr_call.specs.declared.refusal.TakeRefusal.{TakeRefusal}
 use Rattle.adr_call.specs.declared.refusal.TakeRefusal.TheVariants as takes
 use Rattle.adr_model.specs.Store.{State}
 use Rattle.adr_model.specs.Change.{Change}
-use Rattle.adr_model.specs.Collect.{collect}
-use Rattle.adr_model.specs.Refused.{write_refused, serve_refused, take_refused, collect_refused}
-use Rattle.adr_model.specs.Replica.{Replica, Pending, Call, ToCollect, ToWrite, change_in}
+use Rattle.adr_model.specs.Client.{Done, call_meant, done}
+use Rattle.adr_model.specs.Refused.{serve_refused, take_refused}
+use Rattle.adr_model.specs.Replica.{Replica, Pending, Call, change_of}
 use Rattle.adr_model.specs.Serve.{Request, Reply, serve}
 use Rattle.adr_model.specs.Take.{take}
-use Rattle.adr_model.specs.World.{World, Gone, Sent, after_write, after_serve, after_take, after_collect, commit, stays, nothing, not_sent, rows_in, noted, where_up}
-use Rattle.adr_model.specs.Write.{Write, write, write_meant}
-use Rattle.adr_controller.specs.Able.{written_in, served_in, taken_in, collected_in, change_of_served, change_of_taken}
+use Rattle.adr_model.specs.World.{World, Gone, Sent, after_call, after_serve, after_take, commit, stays, nothing, not_sent, rows_in, noted, where_up}
+use Rattle.adr_model.proofs.Calling.{done_change}
+use Rattle.adr_controller.specs.Able.{called_in, served_in, taken_in, change_of_served, change_of_taken}
 use Rattle.adr_controller.specs.declared.refusal.Hindrance.{Hindrance}
 use Rattle.adr_run_replica.specs.Past.{Past}
-use Rattle.adr_run_replica.specs.Pending.{with_call, writing, served_by, serving, taken_by, taking, collecting}
+use Rattle.adr_run_replica.specs.Pending.{with_call, calling, served_by, serving, taken_by, taking}
 use Rattle.adr_run_replica.specs.Led.{StandsIn, world_with}
 use Rattle.adr_run_replica.proofs.Came.{Came, same_world, some_same, by_option}
 
@@ -32,8 +30,8 @@ with_change : (call : Call) (o : Option Change) → option_map (λ (p : Pending)
 with_change call None = refl
 with_change call (Some c) = refl
 
-pub same_written : (what : Asked) (now : ℕ) (s : State) → option_map (λ (p : Pending). p.change) (writing (write_meant what) now s) ≡ written_in what now s
-same_written what now s = with_change (ToWrite (write_meant what) now) (change_in (write s (write_meant what) now))
+pub same_called : (what : Asked) (now : ℕ) (s : State) → option_map (λ (p : Pending). p.change) (calling (call_meant what now) s) ≡ called_in what now s
+same_called what now s = with_change (call_meant what now) (change_of s (call_meant what now))
 
 pub same_served : (request : Request) (s : State) → option_map (λ (p : Pending). p.change) (serving request s) ≡ served_in request 0 s
 same_served request s = by (serve s request 0)
@@ -49,22 +47,20 @@ same_taken reply s = by (take s reply)
     by (Ok c) = refl
     by (Err refusal) = with_change _ _
 
-pub same_collected : (now lifetime : ℕ) (s : State) → option_map (λ (p : Pending). p.change) (collecting now lifetime s) ≡ collected_in now lifetime s
-same_collected now lifetime s = with_change (ToCollect now lifetime) (change_in (collect s now lifetime))
-
 -- ---- what the definitions make of a call
 
 -- with nothing to commit it is answered so, and else so when that is committed
 abbrev pub Makes : World → Replica → Option Pending → Gone → Outcome → Type 0
 Makes w r po gone told = (po ≡ None → gone ≡ (w, told)) × ((p : Pending) → po ≡ Some p → gone ≡ commit w r p told)
 
-abbrev pub write_told : Result Change WriteRefusal → Outcome
-write_told (Ok c) = outcomes.Usn c.usn
-write_told (Err refusal) = write_refused refusal
+done_makes : (w : World) (r : Replica) (call : Call) (d : Done) → Makes w r (with_call call d.1) (after_call w r call d) d.0
+done_makes w r call (told, None) = (λ none. refl, λ p of. absurd (cc of))
+done_makes w r call (told, Some c) = (λ none. absurd (cc none), λ p of. ap (λ x. commit w r x told) (some_same _ p of))
 
-pub write_makes : (w : World) (r : Replica) (what : Write) (t : Result Change WriteRefusal) → Makes w r (with_call (ToWrite what w.time) (change_in t)) (after_write w r what t) (write_told t)
-write_makes w r what (Ok c) = (λ none. absurd (cc none), λ p of. ap (λ x. commit w r x (outcomes.Usn c.usn)) (some_same _ p of))
-write_makes w r what (Err refusal) = (λ none. refl, λ p of. absurd (cc of))
+pub call_makes : (w : World) (r : Replica) (what : Asked) (now : ℕ) → let call = call_meant what now in Makes w r (calling call r.safe) (after_call w r call (done r.safe call)) (done r.safe call).0
+call_makes w r what now =
+    let call = call_meant what now in
+    subst (λ (o : Option Change). Makes w r (with_call call o) (after_call w r call (done r.safe call)) (done r.safe call).0) (done_change r.safe what now) (done_makes w r call (done r.safe call))
 
 abbrev pub take_told : Reply → Result Change TakeRefusal → Outcome
 take_told reply (Ok c) = outcomes.Took (length reply.items) (length c.writes) c.usn
@@ -74,15 +70,6 @@ pub take_makes : (w : World) (r : Replica) (reply : Reply) (t : Result Change Ta
 take_makes w r reply (Ok c) = (λ none. absurd (cc none), λ p of. ap (λ x. commit w r x (take_told reply (Ok c))) (some_same _ p of))
 take_makes w r reply (Err (takes.RolledBack inv mine shown)) = (λ none. absurd (cc none), λ p of. ap (λ x. commit w r x (take_refused (takes.RolledBack inv mine shown))) (some_same _ p of))
 take_makes w r reply (Err _) = (λ none. refl, λ p of. absurd (cc of))
-
-abbrev pub collect_told : Result Change CollectRefusal → Outcome
-collect_told (Ok c) = outcomes.Removed (length c.removed)
-collect_told (Err refusal) = collect_refused refusal
-
-pub collect_makes : (w : World) (r : Replica) (lifetime : ℕ) (t : Result Change CollectRefusal)
-    → Makes w r (with_call (ToCollect w.time lifetime) (change_in t)) (after_collect w r lifetime t) (collect_told t)
-collect_makes w r lifetime (Ok c) = (λ none. absurd (cc none), λ p of. ap (λ x. commit w r x (collect_told (Ok c))) (some_same _ p of))
-collect_makes w r lifetime (Err refusal) = (λ none. refl, λ p of. absurd (cc of))
 
 abbrev pub serve_told : Result Reply ServeRefusal → Outcome
 serve_told (Ok reply) = outcomes.Served reply.from reply.to (length reply.items) (rows_in reply) (is_some reply.last)

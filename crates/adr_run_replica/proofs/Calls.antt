@@ -1,35 +1,33 @@
 -- What each call of a controller is answered, by how it ended.
-use Rattle.std.proofs.Common.{◌≡◌, ◌∙◌, refl, sym, ap, subst, ℕ, Bool, Option, Some, None, Result, Ok, Err, length, is_some}
+use Rattle.std.proofs.Common.{◌≡◌, ◌∙◌, refl, sym, ap, ℕ, Bool, Option, Some, None, Result, Ok, Err, length, is_some}
 use Rattle.std.specs.Prelude.{IfOk, IfSome, OnErr}
+use Rattle.adr_call.specs.declared.call.Call.{Call as Asked}
 use Rattle.adr_call.specs.declared.outcome.Outcome.{Outcome}
 use Rattle.adr_call.specs.declared.outcome.Outcome.TheVariants as outcomes
-use Rattle.adr_call.specs.declared.refusal.WriteRefusal.{WriteRefusal}
-use Rattle.adr_call.specs.declared.refusal.CollectRefusal.{CollectRefusal}
 use Rattle.adr_call.specs.declared.refusal.ServeRefusal.{ServeRefusal}
 use Rattle.adr_call.specs.declared.refusal.TakeRefusal.{TakeRefusal}
 use Rattle.adr_model.specs.Store.{State}
 use Rattle.adr_model.specs.Change.{Change}
-use Rattle.adr_model.specs.Collect.{collect}
-use Rattle.adr_model.specs.Refused.{write_refused, serve_refused, take_refused, collect_refused}
-use Rattle.adr_model.specs.Replica.{Replica, Pending, ToCollect, ToWrite, change_in}
+use Rattle.adr_model.specs.Client.{call_meant, done}
+use Rattle.adr_model.specs.Refused.{serve_refused, take_refused}
+use Rattle.adr_model.specs.Replica.{Call, Replica, Pending}
 use Rattle.adr_model.specs.Serve.{Request, Reply, serve}
 use Rattle.adr_model.specs.Take.{take}
-use Rattle.adr_model.specs.World.{World, Sent, after_write, after_serve, after_take, after_collect, stays, nothing, rows_in, noted, where_up}
-use Rattle.adr_model.specs.Write.{Write, write}
+use Rattle.adr_model.specs.World.{World, Sent, after_call, after_serve, after_take, stays, nothing, rows_in, noted, where_up}
 use Rattle.adr_controller.specs.Ended.{call_hindrance}
 use Rattle.adr_controller.specs.declared.messages.Taken.{Taken}
 use Rattle.adr_controller.specs.declared.refusal.CallRefusal.{CallRefusal}
 use Rattle.adr_controller.specs.declared.refusal.CallRefusal.TheVariants.{Refused}
 use Rattle.adr_controller.specs.declared.refusal.Hindrance.{Hindrance}
 use Rattle.adr_run_replica.specs.Past.{Past}
-use Rattle.adr_run_replica.specs.Pending.{with_call, writing, served_by, serving, taking, collecting}
+use Rattle.adr_run_replica.specs.Pending.{calling, served_by, serving, taking}
 use Rattle.adr_run_replica.specs.Settled.{hindered_so}
 use Rattle.adr_run_replica.specs.Led.{StandsIn, world_with, IsUndone, Leads, LeadsTo}
 use Rattle.adr_run_replica.proofs.Came.{Came, gone_so, sent_so}
 use Rattle.adr_run_replica.proofs.Noted.{answer_unnoted, served_at}
 use Rattle.adr_run_replica.proofs.Ending.{EndsTold, EndsSent, if_told, unless_told, if_sent, sent_holds, unless_sent}
 use Rattle.adr_run_replica.proofs.Results.{if_ok_is}
-use Rattle.adr_run_replica.proofs.Answered.{Makes, write_told, write_makes, take_told, take_makes, collect_told, collect_makes, serve_told, serve_sent, serve_makes, gone_made, sent_made}
+use Rattle.adr_run_replica.proofs.Answered.{call_makes, take_told, take_makes, serve_told, serve_sent, serve_makes, gone_made, sent_made}
 
 module _ (is_held : Type 0) (v q : Replica) (past later : Past) (state : Option State) (stopped : Bool) (how : Option Hindrance) where
   module _ {M R E : Type 0} {made : Result M (CallRefusal R)} {r : Result Outcome E} {d : Bool} {ok : M → Outcome} {no : R → Outcome} {po : Option Pending}
@@ -48,36 +46,32 @@ module _ (is_held : Type 0) (v q : Replica) (past later : Past) (state : Option 
     pub call_undone : OnErr r (IsUndone v past q later)
     call_undone = unless_told (IsUndone v past q later) ends (λ h is. came.wanted h (says ∙ ap call_hindrance is))
 
-  -- ---- a client's write
+  -- ---- what a client calls for
 
-  module _ (what : Write) (now : ℕ) (came : Came is_held v q past later (writing what now v.safe) state stopped how) where
-    abbrev WrittenAs : Outcome → Type 0
-    WrittenAs told =
-        (w : World) → w.time ≡ now → StandsIn w v past
-        → where_up (stays w) v.standing (after_write w v what (write v.safe what now)) ≡ (world_with w q later, told)
+  module _ (what : Asked) (now : ℕ) (came : Came is_held v q past later (calling (call_meant what now) v.safe) state stopped how) where
+    abbrev call : Call
+    call = call_meant what now
 
-    writes : (w : World) → w.time ≡ now → Makes w v (writing what now v.safe) (after_write w v what (write v.safe what now)) (write_told (write v.safe what now))
-    writes w time =
-        let t = write v.safe what now in
-        subst (λ n. Makes w v (with_call (ToWrite what n) (change_in t)) (after_write w v what t) (write_told t)) time (write_makes w v what t)
+    abbrev CalledAs : Outcome → Type 0
+    CalledAs told = Leads v past (λ w. where_up (stays w) v.standing (after_call w v call (done v.safe call))) q later told
 
-    written_as : how ≡ None → (told : Outcome) → write_told (write v.safe what now) ≡ told → WrittenAs told
-    written_as none told tells w time stands =
-        gone_made is_held v q past later (writing what now v.safe) state stopped how came none w (after_write w v what (write v.safe what now)) (write_told (write v.safe what now)) stands
-        (writes w time) ∙ ap (λ t. (world_with w q later, t)) tells
+    call_made_as : how ≡ None → (told : Outcome) → (done v.safe call).0 ≡ told → CalledAs told
+    call_made_as none told tells w stands =
+        gone_made is_held v q past later (calling call v.safe) state stopped how came none w (after_call w v call (done v.safe call)) (done v.safe call).0 stands
+        (call_makes w v what now) ∙ ap (λ t. (world_with w q later, t)) tells
 
-    hindered_write : (h : Hindrance) → how ≡ Some h → (told : Outcome) → hindered_so h stopped ≡ Some told → WrittenAs told
-    hindered_write h is told tells w time stands =
-        gone_so w v q past later (writing what now v.safe) told (after_write w v what (write v.safe what now)) (came.hinders h is told tells) stands
-        (λ p up ofp. (write_told (write v.safe what now), (writes w time).1 p ofp))
+    hindered_call : (h : Hindrance) → how ≡ Some h → (told : Outcome) → hindered_so h stopped ≡ Some told → CalledAs told
+    hindered_call h is told tells w stands =
+        gone_so w v q past later (calling call v.safe) told (after_call w v call (done v.safe call)) (came.hinders h is told tells) stands
+        (λ p up ofp. ((done v.safe call).0, (call_makes w v what now).1 p ofp))
 
-    pub ok_written : {E : Type 0} {made : Result ℕ (CallRefusal WriteRefusal)} {r : Result Outcome E} {d : Bool} → how ≡ call_hindrance made → d ≡ stopped
-        → EndsTold made r d (λ usn. outcomes.Usn usn) write_refused → IfOk made (λ usn. (s : State) → state ≡ Some s → (c : Change) × (write s what now ≡ Ok c) × (usn ≡ c.usn))
-        → ((s : State) (refusal : WriteRefusal) → state ≡ Some s → made ≡ Err (Refused refusal) → write s what now ≡ Err refusal) → IfOk r WrittenAs
-    ok_written {made = made} says same ends makes refuses =
-        answered came says ends WrittenAs (write_told (write v.safe what now)) written_as hindered_write same
-        (λ usn is there. let x = if_ok_is _ made usn is makes v.safe there in ap write_told x.1 ∙ ap (λ n. outcomes.Usn n) (sym x.2))
-        (λ refusal is there. ap write_told (refuses v.safe refusal there is))
+    pub ok_called : {E : Type 0} {made : Result Outcome (CallRefusal Outcome)} {r : Result Outcome E} {d : Bool} → how ≡ call_hindrance made → d ≡ stopped
+        → EndsTold made r d (λ told. told) (λ told. told) → IfOk made (λ told. (s : State) → state ≡ Some s → told ≡ (done s call).0)
+        → ((s : State) (told : Outcome) → state ≡ Some s → made ≡ Err (Refused told) → told ≡ (done s call).0) → IfOk r CalledAs
+    ok_called {made = made} says same ends makes refuses =
+        answered came says ends CalledAs (done v.safe call).0 call_made_as hindered_call same
+        (λ told is there. sym (if_ok_is _ made told is makes v.safe there))
+        (λ told is there. sym (refuses v.safe told there is))
 
   -- ---- a reply
 
@@ -104,39 +98,6 @@ module _ (is_held : Type 0) (v q : Replica) (past later : Past) (state : Option 
         answered came says ends TakenAs (take_told reply (take v.safe reply)) take_made_as hindered_take same
         (λ taken is there. let x = if_ok_is _ made taken is makes v.safe there in ap (take_told reply) x.1 ∙ sym (ap (λ (t : Taken). outcomes.Took t.items t.wrote t.usn) x.2))
         (λ refusal is there. ap (take_told reply) (refuses v.safe refusal there is))
-
-  -- ---- a collection
-
-  module _ (now lifetime : ℕ) (came : Came is_held v q past later (collecting now lifetime v.safe) state stopped how) where
-    abbrev CollectedAs : Outcome → Type 0
-    CollectedAs told =
-        (w : World) → w.time ≡ now → StandsIn w v past
-        → where_up (stays w) v.standing (after_collect w v lifetime (collect v.safe now lifetime)) ≡ (world_with w q later, told)
-
-    collects : (w : World) → w.time ≡ now
-        → Makes w v (collecting now lifetime v.safe) (after_collect w v lifetime (collect v.safe now lifetime)) (collect_told (collect v.safe now lifetime))
-    collects w time =
-        let t = collect v.safe now lifetime in
-        subst (λ n. Makes w v (with_call (ToCollect n lifetime) (change_in t)) (after_collect w v lifetime t) (collect_told t)) time (collect_makes w v lifetime t)
-
-    collect_made_as : how ≡ None → (told : Outcome) → collect_told (collect v.safe now lifetime) ≡ told → CollectedAs told
-    collect_made_as none told tells w time stands =
-        gone_made is_held v q past later (collecting now lifetime v.safe) state stopped how came none w (after_collect w v lifetime (collect v.safe now lifetime))
-        (collect_told (collect v.safe now lifetime)) stands (collects w time) ∙ ap (λ t. (world_with w q later, t)) tells
-
-    hindered_collect : (h : Hindrance) → how ≡ Some h → (told : Outcome) → hindered_so h stopped ≡ Some told → CollectedAs told
-    hindered_collect h is told tells w time stands =
-        gone_so w v q past later (collecting now lifetime v.safe) told (after_collect w v lifetime (collect v.safe now lifetime))
-        (came.hinders h is told tells) stands (λ p up ofp. (collect_told (collect v.safe now lifetime), (collects w time).1 p ofp))
-
-    pub ok_collected : {E : Type 0} {made : Result ℕ (CallRefusal CollectRefusal)} {r : Result Outcome E} {d : Bool} → how ≡ call_hindrance made → d ≡ stopped
-        → EndsTold made r d (λ removed. outcomes.Removed removed) collect_refused
-        → IfOk made (λ removed. (s : State) → state ≡ Some s → (c : Change) × (collect s now lifetime ≡ Ok c) × (removed ≡ length c.removed))
-        → ((s : State) (refusal : CollectRefusal) → state ≡ Some s → made ≡ Err (Refused refusal) → collect s now lifetime ≡ Err refusal) → IfOk r CollectedAs
-    ok_collected {made = made} says same ends makes refuses =
-        answered came says ends CollectedAs (collect_told (collect v.safe now lifetime)) collect_made_as hindered_collect same
-        (λ removed is there. let x = if_ok_is _ made removed is makes v.safe there in ap collect_told x.1 ∙ ap (λ n. outcomes.Removed n) (sym x.2))
-        (λ refusal is there. ap collect_told (refuses v.safe refusal there is))
 
   -- ---- a request
 

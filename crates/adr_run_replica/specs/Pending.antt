@@ -1,5 +1,5 @@
 -- What calls of a controller commit, each with its change.
-use Rattle.std.specs.Prelude.{ℕ, Bool, Option, None, Some, Result, Ok, Err}
+use Rattle.std.specs.Prelude.{Bool, Option, None, Some, Result, Ok, Err}
 use Rattle.std.specs.Bool.{then_some}
 use Rattle.std.specs.Option.{option_map}
 use Rattle.adr_call.specs.declared.refusal.ServeRefusal.{ServeRefusal}
@@ -8,9 +8,8 @@ use Rattle.adr_model.specs.Store.{State}
 use Rattle.adr_model.specs.Change.{Change}
 use Rattle.adr_model.specs.Serve.{Request, Reply, serve}
 use Rattle.adr_model.specs.Take.{take}
-use Rattle.adr_model.specs.Write.{Write, write}
-use Rattle.adr_model.specs.Collect.{collect, quarantine}
-use Rattle.adr_model.specs.Replica.{Call, ToCollect, ToWrite, ToTake, ToQuarantine, Pending, change_in}
+use Rattle.adr_model.specs.Collect.{quarantine}
+use Rattle.adr_model.specs.Replica.{Call, ToTake, ToQuarantine, Pending, change_of}
 use Rattle.adr_controller.specs.Able.{request_shows, reply_shows}
 
 abbrev pub with_call : Call → Option Change → Option Pending
@@ -20,9 +19,9 @@ with_call call change = option_map (λ c. record { call = call; change = c }) ch
 abbrev pub quarantining : Bool → State → Option Pending
 quarantining shown s = with_call ToQuarantine (then_some shown (quarantine s))
 
--- a client's write at a time
-abbrev pub writing : Write → ℕ → State → Option Pending
-writing what now s = with_call (ToWrite what now) (change_in (write s what now))
+-- a client's call
+abbrev pub calling : Call → State → Option Pending
+calling call s = with_call call (change_of s call)
 
 abbrev pub served_by : State → Result Reply ServeRefusal → Option Pending
 served_by s (Ok reply) = None
@@ -39,7 +38,3 @@ taken_by reply s (Err refusal) = quarantining (reply_shows refusal) s
 -- a reply
 abbrev pub taking : Reply → State → Option Pending
 taking reply s = taken_by reply s (take s reply)
-
--- a collection at a time, after a lifetime
-abbrev pub collecting : ℕ → ℕ → State → Option Pending
-collecting now lifetime s = with_call (ToCollect now lifetime) (change_in (collect s now lifetime))

@@ -8,7 +8,6 @@
 //! other controllers of a run, of the names that lines bind, or of the bytes of answers.
 #![tactic(auto)]
 
-mod collecting;
 mod hindered;
 mod keepers;
 mod past;
@@ -17,7 +16,7 @@ mod restoring;
 mod snapshot;
 mod told;
 
-pub use adr_call::{Outcome, Write};
+pub use adr_call::{Call, Outcome};
 pub use adr_cycle::{Reply, Request};
 pub use adr_restore::Image;
 pub use adr_state::State;

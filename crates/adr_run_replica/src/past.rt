@@ -7,7 +7,7 @@ ghost use Rattle.adr_run_replica.specs.Told.{told_of};
 
 use crate::replica::Replica;
 use crate::told::{Deed, Told};
-use adr_call::Write;
+use adr_call::Call;
 use adr_cycle::{Reply, Request};
 use adr_state::State;
 use adr_values::Guid;
@@ -97,7 +97,7 @@ pub(crate) struct Ahead {
 }
 
 impl Ahead {
-    pub(crate) fn of(past: &Past, deed: &Deed<'_, State, Replica, Write, Request, Reply>) -> Ahead
+    pub(crate) fn of(past: &Past, deed: &Deed<'_, State, Replica, Call, Request, Reply>) -> Ahead
         ensures past { result.past ≡ (told_of past.now deed.now).past }
         ensures kept { result.kept ≡ (told_of past.now deed.now).kept }
     {

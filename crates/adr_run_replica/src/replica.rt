@@ -1,9 +1,10 @@
 //! A controller of a run.
 
 ghost use Rattle.std.specs.Prelude.{◌≡◌, ◌≢◌, ◌⊎◌, ◌<◌, Some, Ok, Err, OnErr, IfErr, IfOk, IfSome, true, false, OnOk, IsErrOf};
+ghost use Rattle.adr_call.specs.Supported.{IsSupportedCall};
 ghost use Rattle.adr_wire.specs.Ranges.{IsId};
 ghost use Rattle.adr_model.specs.Spelled.{IsSpelledReply};
-ghost use Rattle.adr_law_recorded.specs.Typed.{IsTypedWrite};
+ghost use Rattle.adr_law_recorded.specs.Typed.{IsTypedCall};
 ghost use Rattle.adr_law_recorded.specs.Ranged.{IsRangedReply, IsRangedRequest};
 ghost use Rattle.adr_model.specs.Lengths.{area_fits, new_log};
 ghost use Rattle.adr_disk.specs.declared.memory.Mishap.TheVariants.{Fails, Stops};
@@ -11,27 +12,26 @@ ghost use Rattle.adr_model.specs.Replica.{Down as stands_down, Failed as stands_
 ghost use Rattle.adr_model.specs.Serve.{ask, serve};
 ghost use Rattle.adr_model.specs.Store.{empty_state};
 ghost use Rattle.adr_model.specs.Take.{take};
-ghost use Rattle.adr_model.specs.World.{World as Defined, after_serve, after_take, after_write, nothing, starts, stays, stops, where_up};
-ghost use Rattle.adr_model.specs.Write.{write, write_meant};
-ghost use Rattle.adr_model.specs.Given.{IsWellGiven};
+ghost use Rattle.adr_model.specs.World.{World as Defined, after_call, after_serve, after_take, nothing, starts, stays, stops, where_up};
+ghost use Rattle.adr_model.specs.Client.{IsWellAsked, call_meant, done};
 ghost use Rattle.adr_records.specs.Logged.{IsLogged, MayBegin};
-ghost use Rattle.adr_run_replica.specs.Led.{IsDone, IsUndone, Leads, LeadsTo, StandsIn, synced, world_with};
+ghost use Rattle.adr_run_replica.specs.Led.{IsDone, IsUndone, Leads, LeadsTo, synced};
 
 use crate::hindered::{hindered, hindrance_in, hindrance_of_start, settle};
 use crate::keepers::goes_as_planned;
 use crate::past::{Ahead, KeptCall, Past};
 use crate::told::Deed;
-use adr_call::{Outcome, Write};
+use adr_call::{Call, Outcome};
 use adr_controller::{CallRefusal, Controller, Keeper, KeeperRefusal, StartRefusal};
 use adr_cycle::{Reply, Request};
 use adr_disk::Crash;
 use adr_journal::Journal;
 use adr_law_recorded::{
-    logged_states_fit, new_controllers_may_begin, quarantines_are_recorded,
-    recorded_changes_leave_logged_states, replies_are_in_range, requests_are_in_range,
-    taken_replies_are_recorded, writes_are_recorded,
+    collections_are_recorded, logged_states_fit, new_controllers_may_begin,
+    quarantines_are_recorded, recorded_changes_leave_logged_states, replies_are_in_range,
+    requests_are_in_range, taken_replies_are_recorded, writes_are_recorded,
 };
-use adr_outcome::{sent, serve_refused, take_refused, unsent, write_refused};
+use adr_outcome::{sent, serve_refused, take_refused, unsent};
 use adr_records::Records;
 use adr_run_disk::MemDisk;
 use adr_run_keeper::{self as rehearsal, PlannedKeeper};
@@ -150,26 +150,26 @@ impl Replica {
         }
     }
 
-    /// A client's write at a time in seconds.
-    pub fn write(
+    /// Does what a client calls for at a time in seconds.
+    pub fn call(
         &mut self,
         alloc: Global,
         past: &mut Past,
-        what: &Write,
+        what: &Call,
         now: u64,
     ) -> Result<Outcome, NoMemory>
-        requires given { IsWellGiven (write_meant what.now) }
-        requires typed { IsTypedWrite (write_meant what.now) }
-        ensures written { let meant = write_meant what.now in
-            IfOk result (λ outcome. (w : Defined) → w.time ≡ now → StandsIn w self.old past.old
-            → where_up (stays w) self.old.standing (after_write w self.old meant (write self.old.safe meant now)) ≡ (world_with w self.new past.new, outcome)) }
+        requires given { IsWellAsked what.now }
+        requires typed { IsTypedCall what.now }
+        requires supported { IsSupportedCall what.now }
+        ensures called { let call = call_meant what.now now in
+            IfOk result (λ outcome. Leads self.old past.old (λ w. where_up (stays w) self.old.standing (after_call w self.old call (done self.old.safe call))) self.new past.new outcome) }
         ensures err { OnErr result (IsUndone self.old past.old self.new past.new) }
         ensures name { self.new.name ≡ self.old.name }
         ensures given { past.new.given ≡ past.old.given }
     {
         let ahead = Ahead::of(
             past,
-            &Deed::Writes {
+            &Deed::Calls {
                 replica: &*self,
                 what,
                 now,
@@ -179,12 +179,13 @@ impl Replica {
         recorded_changes_leave_logged_states();
         logged_states_fit();
         writes_are_recorded();
-        let made = self.controller.write(alloc, what, now);
+        collections_are_recorded();
+        let made = self.controller.call(alloc, what, now);
         let how = hindrance_in(&made);
         let stopped = settle(&mut self.controller, &mut self.kept, past, ahead, how);
         match made {
-            Ok(usn) => Ok(Outcome::Usn(usn)),
-            Err(CallRefusal::Refused(refusal)) => Ok(write_refused(refusal)),
+            Ok(outcome) => Ok(outcome),
+            Err(CallRefusal::Refused(outcome)) => Ok(outcome),
             Err(CallRefusal::Hindered(hindrance)) => hindered(hindrance, stopped),
         }
     }

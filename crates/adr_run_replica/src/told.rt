@@ -5,7 +5,7 @@ ghost use Rattle.adr_run_replica.specs.Past.{Ahead, nothing_yet};
 ghost use Rattle.adr_run_replica.specs.Told.{keeping_none, told_of};
 
 use crate::replica::Replica;
-use adr_call::Write;
+use adr_call::Call;
 use adr_cycle::{Reply, Request};
 use adr_state::State;
 use adr_values::Guid;
@@ -14,7 +14,7 @@ use std::marker::Model;
 /// What a past is told, also before a call that may commit something. The types behind the references are parameters,
 /// since the check isn't told which modules hold a type that an enum has behind a reference.
 #[derive(Drop)]
-pub(crate) enum Deed<'a, S, R, W, Q, A> {
+pub(crate) enum Deed<'a, S, R, C, Q, A> {
     /// An incarnation begins with what its state has.
     Begun(&'a S),
     /// A line gives the identifiers of a controller and of its database.
@@ -26,10 +26,10 @@ pub(crate) enum Deed<'a, S, R, W, Q, A> {
     GaveInv {
         inv: Guid,
     },
-    /// A controller is about to write what a client writes, at a time.
-    Writes {
+    /// A controller is about to do what a client calls for, at a time.
+    Calls {
         replica: &'a R,
-        what: &'a W,
+        what: &'a C,
         now: u64,
     },
     /// It is about to answer a request.
@@ -41,12 +41,6 @@ pub(crate) enum Deed<'a, S, R, W, Q, A> {
     Takes {
         replica: &'a R,
         reply: &'a A,
-    },
-    /// It is about to collect its tombstones at a time and after a lifetime.
-    Collects {
-        replica: &'a R,
-        now: u64,
-        lifetime: u64,
     },
     /// It is about to be stopped.
     Stops(&'a R),
@@ -75,7 +69,7 @@ impl Told {
     }
 
     /// And one thing more.
-    pub(crate) fn with(&self, _deed: &Deed<'_, State, Replica, Write, Request, Reply>) -> Told
+    pub(crate) fn with(&self, _deed: &Deed<'_, State, Replica, Call, Request, Reply>) -> Told
         ensures { result.ahead ≡ told_of self.now.ahead.past _deed.now }
     {
         Told {}

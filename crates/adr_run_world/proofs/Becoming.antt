@@ -85,11 +85,6 @@ module _ {r : Run} {name : Name} {i : ℕ} {d new : Replica} {later : Past} (b :
       → IfOk t (λ o. of_controller (world_of r) name (stays (world_of r)) (act (world_of r)) ≡ (run_with r i new later, o))
   leads t act = IfOk-weaker t _ _ (λ o is. led (act (world_of r)) o (is (world_of r) stands))
 
-  pub leads_in_time : {E : Type 0} (t : Result Outcome E) (act : World → Replica → Gone)
-      → IfOk t (λ o. (w : World) → w.time ≡ r.time → StandsIn w d r.past → where_up (stays w) d.standing (act w d) ≡ (world_with w new later, o))
-      → IfOk t (λ o. of_controller (world_of r) name (stays (world_of r)) (act (world_of r)) ≡ (run_with r i new later, o))
-  leads_in_time t act = IfOk-weaker t _ _ (λ o is. led (act (world_of r)) o (is (world_of r) refl stands))
-
   pub leads_to : {A E : Type 0} (t : Result (Outcome × Option A) E) (act : World → Replica → Sent A)
       → IfOk t (λ m. LeadsTo d r.past (λ w. where_up (nothing w) d.standing (act w d)) new later m.0 m.1)
       → IfOk t (λ m. of_controller (world_of r) name (nothing (world_of r)) (act (world_of r)) ≡ (run_with r i new later, m.0, m.1))

@@ -23,16 +23,18 @@ use Rattle.adr_call.specs.declared.refusal.UpgradeRefusal.TheVariants as upgrade
 use Rattle.adr_call.specs.declared.refusal.AdoptRefusal.{AdoptRefusal}
 use Rattle.adr_call.specs.declared.refusal.AdoptRefusal.TheVariants as adopt_refusals
 use Rattle.adr_model.specs.Change.{Change}
-use Rattle.adr_model.specs.Collect.{quarantine}
+use Rattle.adr_model.specs.Client.{Done, changed_over, collected, done, written}
+use Rattle.adr_model.specs.Collect.{collect, quarantine}
+use Rattle.adr_model.specs.Upgrade.{upgrade}
 use Rattle.adr_model.specs.Lengths.{new_log, area_fits, change_fits}
 use Rattle.adr_model.specs.Refused.{adopt_refused, collect_refused, full, schema_refused, serve_refused, take_refused, upgrade_refused, write_refused}
 use Rattle.adr_disk.specs.declared.memory.Mishap.TheVariants.{Fails, Stops}
-use Rattle.adr_model.specs.Replica.{Met, Passed, Pending, Replica, ToCollect, ToQuarantine, ToTake, ToUpgrade, ToWrite, Went, Standing, Up, Down, Failed, commit_goes, outcome_after, start_goes}
+use Rattle.adr_model.specs.Replica.{Call, Met, Passed, Pending, Replica, ToCollect, ToQuarantine, ToTake, ToUpgrade, ToWrite, Went, Standing, Up, Down, Failed, commit_goes, outcome_after, start_goes}
 use Rattle.adr_model.specs.Serve.{Reply, Request, serve}
 use Rattle.adr_model.specs.Store.{State, Store}
 use Rattle.adr_model.specs.Take.{take}
-use Rattle.adr_model.specs.World.{Gone, Name, Sent, Snapshot, World, adopts, after_collect, after_serve, after_take, after_upgrade, after_write, asks, backed_up, begins, commit, committed, delivered, delivers, nothing, of_controller, of_image, of_made, put_back, quarantines, replica_at, served, serves_request, started, starts, stays, unless_refused, where_up, within_log, writes}
-use Rattle.adr_model.specs.Write.{Write, write}
+use Rattle.adr_model.specs.World.{Gone, Name, Sent, Snapshot, World, adopts, after_serve, after_take, asks, backed_up, begins, commit, committed, delivered, delivers, nothing, of_controller, of_image, of_made, put_back, quarantines, replica_at, served, serves_request, started, starts, stays, unless_refused, where_up, within_log, after_call, does}
+use Rattle.adr_model.specs.Write.{write}
 use Rattle.adr_answers.specs.Room.{HasNoReport, result_room}
 
 -- no report, and no more than 400 bytes
@@ -98,6 +100,27 @@ adopt_brief : (r : AdoptRefusal) → IsBrief (adopt_refused r)
 adopt_brief adopt_refusals.IdentifierUsed = brief _ tt refl
 adopt_brief (adopt_refusals.Full table limit) = full_brief table limit
 
+-- ---- what is answered to clients' calls
+
+written_brief : (t : Result Change WriteRefusal) → IsBrief (written t).0
+written_brief (Ok c) = brief _ tt refl
+written_brief (Err x) = write_brief x
+
+collected_brief : (t : Result Change CollectRefusal) → IsBrief (collected t).0
+collected_brief (Ok c) = brief _ tt refl
+collected_brief (Err x) = collect_brief x
+
+changed_over_brief : (t : Result Change UpgradeRefusal) → IsBrief (changed_over t).0
+changed_over_brief (Ok c) = ok_brief
+changed_over_brief (Err x) = upgrade_brief x
+
+done_brief : (s : State) (call : Call) → IsBrief (done s call).0
+done_brief s (ToWrite what now) = written_brief (write s what now)
+done_brief s (ToCollect now lifetime) = collected_brief (collect s now lifetime)
+done_brief s ToUpgrade = changed_over_brief (upgrade s)
+done_brief s (ToTake reply) = ok_brief
+done_brief s ToQuarantine = ok_brief
+
 -- ---- calls
 
 abbrev pub IsBriefly : Gone → Type 0
@@ -147,14 +170,9 @@ module _ (w : World) (r : Replica) where
   quarantines_brief : (o : Outcome) → IsBrief o → IsBriefly (quarantines w r o)
   quarantines_brief o is = commit_brief (record { call = ToQuarantine; change = quarantine r.safe }) o is
 
-  pub write_gone : (what : Write) (t : Result Change WriteRefusal) → IsBriefly (after_write w r what t)
-  write_gone what t = unless_brief w write_refused _ t write_brief (λ change. commit_brief (record { call = ToWrite what w.time; change = change }) (outcomes.Usn change.usn) (brief _ tt refl))
-
-  pub collect_gone : (lifetime : ℕ) (t : Result Change CollectRefusal) → IsBriefly (after_collect w r lifetime t)
-  collect_gone lifetime t = unless_brief w collect_refused _ t collect_brief (λ change. commit_brief (record { call = ToCollect w.time lifetime; change = change }) (outcomes.Removed (length change.removed)) (brief _ tt refl))
-
-  pub upgrade_gone : (t : Result Change UpgradeRefusal) → IsBriefly (after_upgrade w r t)
-  upgrade_gone t = unless_brief w upgrade_refused _ t upgrade_brief (λ change. commit_brief (record { call = ToUpgrade; change = change }) outcomes.Ok ok_brief)
+  called_gone : (call : Call) (d : Done) → IsBrief d.0 → IsBriefly (after_call w r call d)
+  called_gone call (told, None) is = is
+  called_gone call (told, Some c) is = commit_brief (record { call = call; change = c }) told is
 
   serve_sent : (t : Result Reply ServeRefusal) → IsSentBriefly (after_serve w r t)
   serve_sent (Ok reply) = brief _ tt refl
@@ -195,8 +213,8 @@ module _ (w : World) (r : Replica) where
   starts_brief Failed = start_gone
 
 module _ (w : World) where
-  pub writes_brief : (name : Name) (what : Write) → IsBriefly (writes w name what)
-  writes_brief name what = called_brief IsBriefly (stays w) (gone_otherwise w) w name _ (λ r. write_gone w r what (write r.safe what w.time))
+  pub does_brief : (name : Name) (call : Call) → IsBriefly (does w name call)
+  does_brief name call = called_brief IsBriefly (stays w) (gone_otherwise w) w name _ (λ r. called_gone w r call (done r.safe call) (done_brief r.safe call))
 
   pub asks_brief : (name partner : Name) (max version : ℕ) → IsSentBriefly (asks w name partner max version)
   asks_brief name partner max version =

@@ -8,21 +8,22 @@ use Rattle.adr_call.specs.declared.event.Event.{Event}
 use Rattle.adr_call.specs.declared.event.Event.TheVariants as events
 use Rattle.adr_call.specs.declared.verb.Verb.{Verb}
 use Rattle.adr_call.specs.declared.verb.Verb.TheVariants as verbs
-use Rattle.adr_call.specs.Verbs.{verb_of_write, word_of}
+use Rattle.adr_call.specs.Verbs.{verb_of_call, word_of}
 use Rattle.adr_call.specs.declared.outcome.Outcome.{Outcome}
 use Rattle.adr_call.specs.declared.outcome.Outcome.TheVariants as outcomes
-use Rattle.adr_model.specs.Collect.{adopt, collect}
+use Rattle.adr_model.specs.Client.{call_meant}
+use Rattle.adr_model.specs.Collect.{adopt}
 use Rattle.adr_model.specs.Cycles.{Pulled, and_then, pull, pull_asked, pull_served, pull_version, pulls, reply_limit}
 use Rattle.adr_model.specs.Serve.{Reply, Request}
 use Rattle.adr_model.specs.Store.{Store}
-use Rattle.adr_model.specs.Step.{gives, revival, step, stepped}
-use Rattle.adr_model.specs.Upgrade.{upgrade}
-use Rattle.adr_model.specs.World.{Name, Snapshot, World, answer, asks, bound_at, nothing, replica_at, serves_request, stays, with_replica}
-use Rattle.adr_model.specs.Write.{Revive, write_meant}
+use Rattle.adr_model.specs.Replica.{ToWrite}
+use Rattle.adr_model.specs.Step.{gives, step, told}
+use Rattle.adr_model.specs.World.{Name, Snapshot, World, answer, asks, bound_at, does, nothing, of_image, replica_at, serves_request, stays, with_replica}
+use Rattle.adr_model.specs.Write.{Revive}
 use Rattle.adr_answers.specs.Room.{IsWithin, result_room}
 use Rattle.adr_run_world.specs.Pulls.{IsCycleTurn, IsTurn}
 use Rattle.adr_run_world.specs.Room.{names_room, room_beside}
-use Rattle.adr_run_world.proofs.Brief.{IsBrief, IsBriefly, IsSentBriefly, absent_brief, adopts_brief, asks_brief, backup_brief, called_brief, collect_gone, delivers_brief, gone_otherwise, image_brief, made_brief, more_brief, ok_brief, put_back_brief, sent_otherwise, serves_brief, starts_brief, upgrade_gone, writes_brief}
+use Rattle.adr_run_world.proofs.Brief.{IsBrief, IsBriefly, IsSentBriefly, absent_brief, adopts_brief, asks_brief, backup_brief, called_brief, delivers_brief, does_brief, gone_otherwise, image_brief, made_brief, more_brief, ok_brief, put_back_brief, sent_otherwise, serves_brief, starts_brief}
 
 -- a report may have any length, and the answer of a ring may have another's name
 abbrev pub MayLack : Event → Type 0
@@ -107,25 +108,20 @@ module _ (names room : ℕ) (enough : names + room_beside ≤ room) where
 
 module _ (room : ℕ) where
   revived_fits : (w : World) (name : Name) (guid : List ℕ) (image : Name) (parent text : List ℕ) (i : Option Store) → length name + room_beside ≤ room
-      → All (IsWithin room) (stepped w (events.Revive name guid image parent text) (revival name guid parent text i)).1
+      → All (IsWithin room) (told (codes "revive") name (of_image w i (λ x. does w name (ToWrite (Revive x guid parent text) w.time)))).1
   revived_fits w name guid image parent text None enough = one (length name) room enough (codes "revive") name _ (word_short verbs.Revive) (omega arith) absent_brief
-  revived_fits w name guid image parent text (Some i) enough = one (length name) room enough (codes "revive") name _ (word_short verbs.Revive) (omega arith) (writes_brief w name (Revive i guid parent text))
+  revived_fits w name guid image parent text (Some i) enough = one (length name) room enough (codes "revive") name _ (word_short verbs.Revive) (omega arith) (does_brief w name (ToWrite (Revive i guid parent text) w.time))
 
   step_fits : (w : World) (e : Event) → names_room e + room_beside ≤ room → MayLack e ⊎ All (IsWithin room) (step w e).1
   step_fits w (events.Controller name dsa inv) enough = inr (one (length name) room enough (codes "controller") name _ (word_short verbs.Controller) (omega arith) ok_brief)
   step_fits w (events.Time now) enough = inr (All-nil (IsWithin room))
-  step_fits w (events.Write name what) enough = inr (one (length name) room enough (word_of (verb_of_write what)) name _ (word_short (verb_of_write what)) (omega arith) (writes_brief w name (write_meant what)))
+  step_fits w (events.Calls name what) enough = inr (one (length name) room enough (word_of (verb_of_call what)) name _ (word_short (verb_of_call what)) (omega arith) (does_brief w name (call_meant what w.time)))
   step_fits w (events.Ask name partner max version bind) enough = inr (one (length name) room enough (codes "ask") name _ (word_short verbs.Ask) (omega arith) (asks_brief w name partner max version))
   step_fits w (events.Serve name request bind) enough = inr (one (length name) room enough (codes "serve") name _ (word_short verbs.Serve) (omega arith) (serves_brief w name (bound_at w.requests request)))
   step_fits w (events.Deliver name reply) enough = inr (one (length name) room enough (codes "deliver") name _ (word_short verbs.Deliver) (omega arith) (delivers_brief w name (bound_at w.replies reply)))
   step_fits w (events.Pull name source max) enough = inr (pull_fits (length name + length source) room enough name source (omega arith) (omega arith) w max)
   step_fits w (events.Cycle name source max) enough = inr (pulls_fit (length name + length source) room enough name source (omega arith) (omega arith) reply_limit w max)
   step_fits w (events.Ring name others rounds max) enough = inl tt
-  step_fits w (events.Collect name lifetime) enough =
-      inr (one (length name) room enough (codes "collect") name _ (word_short verbs.Collect) (omega arith)
-      (called_brief IsBriefly (stays w) (gone_otherwise w) w name _ (λ r. collect_gone w r lifetime (collect r.safe w.time lifetime))))
-  step_fits w (events.Upgrade name) enough =
-      inr (one (length name) room enough (codes "upgrade") name _ (word_short verbs.Upgrade) (omega arith) (called_brief IsBriefly (stays w) (gone_otherwise w) w name _ (λ r. upgrade_gone w r (upgrade r.safe))))
   step_fits w (events.Revive name guid image parent text) enough = inr (revived_fits w name guid image parent text (bound_at w.images image) enough)
   step_fits w (events.Backup name bind) enough =
       inr (one (length name) room enough (codes "backup") name _ (word_short verbs.Backup) (omega arith) (called_brief IsSentBriefly (nothing w) (sent_otherwise w Store) w name _ (λ r. backup_brief w _)))

@@ -9,7 +9,7 @@
 #![tactic(auto)]
 
 mod bound;
-mod collecting;
+mod calling;
 mod coming;
 mod comparing;
 mod controller;
@@ -27,7 +27,6 @@ mod run;
 mod stepping;
 mod stopping;
 mod world;
-mod writing;
 
 pub use counting::Tally;
 pub use playing::play;

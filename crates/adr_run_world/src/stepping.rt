@@ -128,7 +128,7 @@ impl Run {
     {
         match event {
             Event::Controller { name, dsa, inv } => self.controller(alloc, name, *dsa, *inv),
-            Event::Write { name, what } => self.written(alloc, name, what),
+            Event::Calls { name, what } => self.called(alloc, name, what),
             Event::Ask {
                 name,
                 partner,
@@ -142,7 +142,6 @@ impl Run {
                 bound,
             } => self.serve(alloc, name, request, bound),
             Event::Deliver { name, reply } => self.take_bound(alloc, name, reply),
-            Event::Collect { name, lifetime } => self.collected(alloc, name, *lifetime),
             Event::Backup { name, bound } => self.backup(alloc, name, bound),
             Event::Restore { name, image, inv } => self.restore(alloc, name, image, *inv),
             Event::Install {
@@ -162,7 +161,6 @@ impl Run {
             | Event::Pull { .. }
             | Event::Cycle { .. }
             | Event::Ring { .. }
-            | Event::Upgrade { .. }
             | Event::Revive { .. } => unreachable!(),
         }
     }

@@ -3,7 +3,8 @@ use Rattle.std.proofs.Common.{◌≡◌, ℕ, List, [], ◌∷◌, Some}
 use Rattle.adr_values.specs.Assignments.{Given}
 use Rattle.adr_call.specs.declared.event.Event.{Event}
 use Rattle.adr_call.specs.declared.write.Write.TheVariants.{Add, Modify}
-use Rattle.adr_call.specs.declared.event.Event.TheVariants.{Write, Ask, Upgrade, Revive}
+use Rattle.adr_call.specs.declared.call.Call.TheVariants.{Write, Upgrade}
+use Rattle.adr_call.specs.declared.event.Event.TheVariants.{Calls, Ask, Revive}
 use Rattle.adr_call.specs.Supported.{IsSupported}
 use Rattle.adr_schedule.specs.Sets.{rising}
 use Rattle.adr_schedule.specs.Grammar.{Token, given_by, tokens_behind, tokens_in, AreSpelled, HasLine, HaveSpellings, SpelledEventsAreAllowed}
@@ -16,9 +17,9 @@ have_spellings (token ∷ tokens) bytes h = ((h.1.0, h.1.1), have_spellings toke
 -- the tokens of an event, its sets in rising order
 in_rising_order : (order : List Given) (e : Event) → rising order ≡ Some (given_by e) → HaveSpellings (tokens_in order e) → HaveSpellings (tokens_in (given_by e) e)
 unfolding tokens_behind
-in_rising_order order (Write name (Add guid class parent text values)) r h =
+in_rising_order order (Calls name (Write (Add guid class parent text values))) r h =
     (h.0, (h.1.0, (h.1.1.0, (h.1.1.1.0, (h.1.1.1.1.0, (h.1.1.1.1.1.0, spelled_rising order values r h.1.1.1.1.1.1))))))
-in_rising_order order (Write name (Modify guid values)) r h = (h.0, (h.1.0, (h.1.1.0, spelled_rising order values r h.1.1.1)))
+in_rising_order order (Calls name (Write (Modify guid values))) r h = (h.0, (h.1.0, (h.1.1.0, spelled_rising order values r h.1.1.1)))
 in_rising_order order e r h = h
 
 pub spelled_allowed : SpelledEventsAreAllowed
@@ -27,6 +28,6 @@ spelled_allowed line e s = (s.0, in_rising_order s.1.0 e s.1.1 (have_spellings (
 -- an event that has a line is one that the program does
 pub lined_supported : (e : Event) → HasLine e → IsSupported e
 lined_supported (Ask name partner max version bound) h = h.1
-lined_supported (Upgrade name) h = h
+lined_supported (Calls name Upgrade) h = h
 lined_supported (Revive name guid image parent text) h = h
 lined_supported e h = tt

@@ -11,7 +11,8 @@ use Rattle.adr_call.specs.declared.write.Write.TheVariants.{Add, Modify, Rename,
 use Rattle.adr_call.specs.declared.report.Report.{Report as Asked}
 use Rattle.adr_call.specs.declared.report.Report.TheVariants.{Directory, Vector, Marks, Meta}
 use Rattle.adr_call.specs.declared.event.Event.{Event}
-use Rattle.adr_call.specs.declared.event.Event.TheVariants.{Controller, Time, Write, Ask, Serve, Deliver, Pull, Cycle, Ring, Collect, Upgrade, Revive, Backup, Restore, Install, Snapshot, Rollback, StopAfter, Fail, Stop, Start, Report}
+use Rattle.adr_call.specs.declared.call.Call.TheVariants.{Write, Collect, Upgrade}
+use Rattle.adr_call.specs.declared.event.Event.TheVariants.{Controller, Time, Calls, Ask, Serve, Deliver, Pull, Cycle, Ring, Revive, Backup, Restore, Install, Snapshot, Rollback, StopAfter, Fail, Stop, Start, Report}
 use Rattle.adr_call.specs.Verbs.{verb_of, verb_of_report, word_of}
 use Rattle.adr_token.specs.Gives.{◌>>=◌}
 use Rattle.adr_token.specs.Words.{unspaced, ended, word_at, name_at}
@@ -61,12 +62,12 @@ use_was P event bytes go e h =
 
 -- NAME ID ATTR ID
 link_was : (P : Event → Type 0) (what : List ℕ → ℕ → List ℕ → Written) (bytes : List ℕ)
-    → ((name from : List ℕ) (attr : ℕ) (to : List ℕ) → AreSpelled (Name name ∷ Identifier from ∷ Attribute attr ∷ Identifier to ∷ []) bytes → P (Write name (what from attr to)))
+    → ((name from : List ℕ) (attr : ℕ) (to : List ℕ) → AreSpelled (Name name ∷ Identifier from ∷ Attribute attr ∷ Identifier to ∷ []) bytes → P (Calls name (Write (what from attr to))))
     → (e : Event) → link_line what bytes ≡ Some e → P e
 unfolding link_line
 link_was P what bytes go e h =
     each_step P (name_at bytes) _ (λ name n. each_step P (identifier_at name.1) _ (λ from f. each_step P (attribute_at from.1) _ (λ attr a. each_step P (identifier_at attr.1) _ (λ to t.
-    at_end P to.1 (Write name.0 (what from.0 attr.0 to.0)) (λ last.
+    at_end P to.1 (Calls name.0 (Write (what from.0 attr.0 to.0))) (λ last.
     go name.0 from.0 attr.0 to.0 (name.1, name_next bytes name n, (from.1, identifier_next name.1 from f, (attr.1, attribute_next from.1 attr a, (to.1, identifier_next attr.1 to t, last))))))))) e h
 
 -- NAME NAME MAX
@@ -113,7 +114,7 @@ unfolding add_line tokens_behind
 add_was line rest verb e h =
     let P = Spells line in
     each_step P (name_at rest) _ (λ name n. each_step P (identifier_at name.1) _ (λ guid g. each_step P (class_at guid.1) _ (λ class c. each_step P (identifier_at class.1) _ (λ parent p.
-    each_step P (text_at (unspaced parent.1)) _ (λ text t. made P (λ values. Write name.0 (Add guid.0 class.0 parent.0 text.0 values)) (sets_at text.1) (λ values v.
+    each_step P (text_at (unspaced parent.1)) _ (λ text t. made P (λ values. Calls name.0 (Write (Add guid.0 class.0 parent.0 text.0 values))) (sets_at text.1) (λ values v.
     let s = sets_were text.1 values v in (
       rising_from s.order values s.give,
       (
@@ -156,7 +157,7 @@ modify_was line rest verb e h =
     let P = Spells line in
     each_step P (name_at rest) _ (λ name n. each_step P (identifier_at name.1) _ (λ guid g. each_step P (sets_at guid.1) _ (λ values v event k.
     let s = sets_were guid.1 values v in
-    let m = with_some (length values) (Write name.0 (Modify guid.0 values)) event k in
+    let m = with_some (length values) (Calls name.0 (Write (Modify guid.0 values))) event k in
     subst P m.1 (
       (rising_from s.order values s.give, m.0),
       (s.order, s.give, (rest, verb, (name.1, name_next rest name n, (guid.1, identifier_next name.1 guid g, s.spelled)))),
@@ -181,14 +182,14 @@ unfolding rename_line tokens_behind
 rename_was line rest verb e h =
     let P = Spells line in
     each_step P (name_at rest) _ (λ name n. each_step P (identifier_at name.1) _ (λ guid g. each_step P (identifier_at guid.1) _ (λ parent p. each_step P (text_at (unspaced parent.1)) _ (λ text t.
-    at_end P text.1 (Write name.0 (Rename guid.0 parent.0 text.0)) (λ last.
+    at_end P text.1 (Calls name.0 (Write (Rename guid.0 parent.0 text.0))) (λ last.
     (tt, ([], refl, (rest, verb, (name.1, name_next rest name n, (guid.1, identifier_next name.1 guid g, (parent.1, identifier_next guid.1 parent p, (text.1, text_next parent.1 text t, last)))))))))))) e h
 
 delete_was : Follows verbs.Delete
 unfolding delete_line tokens_behind
 delete_was line rest verb e h =
     let P = Spells line in
-    each_step P (name_at rest) _ (λ name n. each_step P (identifier_at name.1) _ (λ guid g. at_end P guid.1 (Write name.0 (Delete guid.0)) (λ last.
+    each_step P (name_at rest) _ (λ name n. each_step P (identifier_at name.1) _ (λ guid g. at_end P guid.1 (Calls name.0 (Write (Delete guid.0))) (λ last.
     (tt, ([], refl, (rest, verb, (name.1, name_next rest name n, (guid.1, identifier_next name.1 guid g, last)))))))) e h
 
 ask_was : Follows verbs.Ask
@@ -214,7 +215,7 @@ collect_was : Follows verbs.Collect
 unfolding collect_line tokens_behind
 collect_was line rest verb e h =
     let P = Spells line in
-    each_step P (name_at rest) _ (λ name n. each_step P (number_at name.1) _ (λ lifetime l. at_end P lifetime.1 (Collect name.0 lifetime.0) (λ last.
+    each_step P (name_at rest) _ (λ name n. each_step P (number_at name.1) _ (λ lifetime l. at_end P lifetime.1 (Calls name.0 (Collect lifetime.0)) (λ last.
     (tt, ([], refl, (rest, verb, (name.1, name_next rest name n, (lifetime.1, number_next name.1 lifetime l, last)))))))) e h
 
 restore_was : Follows verbs.Restore
@@ -333,7 +334,7 @@ unfolding use_line
 use_again event bytes name other h = rw (name_read name bytes h.0 h.1, name_read other h.0 h.2.0 h.2.1, h.2.2) refl
 
 link_again : (what : List ℕ → ℕ → List ℕ → Written) (bytes name from : List ℕ) (attr : ℕ) (to : List ℕ) → AreSpelled (Name name ∷ Identifier from ∷ Attribute attr ∷ Identifier to ∷ []) bytes
-    → link_line what bytes ≡ Some (Write name (what from attr to))
+    → link_line what bytes ≡ Some (Calls name (Write (what from attr to)))
 unfolding link_line
 link_again what bytes name from attr to h =
     let a = h.2.2 in
@@ -355,7 +356,7 @@ unfolding time_line
 time_again bytes now h = rw (number_read now bytes h.0 h.1, h.2) refl
 
 add_again : (bytes name guid : List ℕ) (class : ℕ) (parent text : List ℕ) (values order : List Given) → rising order ≡ Some values
-    → AreSpelled (Name name ∷ Identifier guid ∷ Class class ∷ Identifier parent ∷ Quoted text ∷ sets order) bytes → add_line bytes ≡ Some (Write name (Add guid class parent text values))
+    → AreSpelled (Name name ∷ Identifier guid ∷ Class class ∷ Identifier parent ∷ Quoted text ∷ sets order) bytes → add_line bytes ≡ Some (Calls name (Write (Add guid class parent text values)))
 unfolding add_line
 add_again bytes name guid class parent text values order r h =
     let c = h.2.2 in
@@ -370,7 +371,7 @@ add_again bytes name guid class parent text values order r h =
     ) refl
 
 modify_again : (bytes name guid : List ℕ) (values order : List Given) → 0 < length values → rising order ≡ Some values → AreSpelled (Name name ∷ Identifier guid ∷ sets order) bytes
-    → modify_line bytes ≡ Some (Write name (Modify guid values))
+    → modify_line bytes ≡ Some (Calls name (Write (Modify guid values)))
 unfolding modify_line
 modify_again bytes name guid values order some r h =
     let more : (length values == 0) ≡ false = ne_eqb (length values) 0 (λ none. omega arith) in
@@ -386,13 +387,13 @@ ring_again bytes name others rounds max is h =
     rw (rounds_read rounds bytes h.0 is.0 h.1, limit_read max h.0 l.0 is.1 l.1, name_read name l.0 n.0 n.1, names_read name n.0 others is.2.1 n.2, more) refl
 
 rename_again : (bytes name guid parent text : List ℕ) → AreSpelled (Name name ∷ Identifier guid ∷ Identifier parent ∷ Quoted text ∷ []) bytes
-    → rename_line bytes ≡ Some (Write name (Rename guid parent text))
+    → rename_line bytes ≡ Some (Calls name (Write (Rename guid parent text)))
 unfolding rename_line
 rename_again bytes name guid parent text h =
     let p = h.2.2 in
     rw (name_read name bytes h.0 h.1, identifier_read guid h.0 h.2.0 h.2.1, identifier_read parent h.2.0 p.0 p.1, text_read text p.0 p.2.0 p.2.1, p.2.2) refl
 
-delete_again : (bytes name guid : List ℕ) → AreSpelled (Name name ∷ Identifier guid ∷ []) bytes → delete_line bytes ≡ Some (Write name (Delete guid))
+delete_again : (bytes name guid : List ℕ) → AreSpelled (Name name ∷ Identifier guid ∷ []) bytes → delete_line bytes ≡ Some (Calls name (Write (Delete guid)))
 unfolding delete_line
 delete_again bytes name guid h = rw (name_read name bytes h.0 h.1, identifier_read guid h.0 h.2.0 h.2.1, h.2.2) refl
 
@@ -420,7 +421,7 @@ binding_again : (event : List ℕ → List ℕ → Event) (bytes name bound : Li
 unfolding binding_line
 binding_again event bytes name bound h = rw (name_read name bytes h.0 h.1, bound_read bound h.0 h.2.0 h.2.2.0 h.2.1 h.2.2.1, h.2.2.2) refl
 
-collect_again : (bytes name : List ℕ) (lifetime : ℕ) → AreSpelled (Name name ∷ Number lifetime ∷ []) bytes → collect_line bytes ≡ Some (Collect name lifetime)
+collect_again : (bytes name : List ℕ) (lifetime : ℕ) → AreSpelled (Name name ∷ Number lifetime ∷ []) bytes → collect_line bytes ≡ Some (Calls name (Collect lifetime))
 unfolding collect_line
 collect_again bytes name lifetime h = rw (name_read name bytes h.0 h.1, number_read lifetime h.0 h.2.0 h.2.1, h.2.2) refl
 
@@ -473,20 +474,20 @@ behind_read : (line : List ℕ) (event : Event) (s : Spells line event) → by_v
 unfolding tokens_behind
 behind_read line (Controller name dsa inv) h = controller_again h.1.2.0 name dsa inv h.1.2.2
 behind_read line (Time now) h = time_again h.1.2.0 now h.1.2.2
-behind_read line (Write name (Add guid class parent text values)) h = add_again h.1.2.0 name guid class parent text values h.1.0 h.1.1 h.1.2.2
-behind_read line (Write name (Modify guid values)) h = modify_again h.1.2.0 name guid values h.1.0 h.0.1 h.1.1 h.1.2.2
-behind_read line (Write name (Rename guid parent text)) h = rename_again h.1.2.0 name guid parent text h.1.2.2
-behind_read line (Write name (Delete guid)) h = delete_again h.1.2.0 name guid h.1.2.2
-behind_read line (Write name (Link from attr to)) h = link_again Link h.1.2.0 name from attr to h.1.2.2
-behind_read line (Write name (Unlink from attr to)) h = link_again Unlink h.1.2.0 name from attr to h.1.2.2
+behind_read line (Calls name (Write (Add guid class parent text values))) h = add_again h.1.2.0 name guid class parent text values h.1.0 h.1.1 h.1.2.2
+behind_read line (Calls name (Write (Modify guid values))) h = modify_again h.1.2.0 name guid values h.1.0 h.0.1 h.1.1 h.1.2.2
+behind_read line (Calls name (Write (Rename guid parent text))) h = rename_again h.1.2.0 name guid parent text h.1.2.2
+behind_read line (Calls name (Write (Delete guid))) h = delete_again h.1.2.0 name guid h.1.2.2
+behind_read line (Calls name (Write (Link from attr to))) h = link_again Link h.1.2.0 name from attr to h.1.2.2
+behind_read line (Calls name (Write (Unlink from attr to))) h = link_again Unlink h.1.2.0 name from attr to h.1.2.2
 behind_read line (Ask name partner max version bound) h = ask_again h.1.2.0 name partner bound max version h.0 h.1.2.2
 behind_read line (Serve name request bound) h = serve_again h.1.2.0 name request bound h.1.2.2
 behind_read line (Deliver name reply) h = use_again Deliver h.1.2.0 name reply h.1.2.2
 behind_read line (Pull name source max) h = pull_again Pull h.1.2.0 name source max h.0 h.1.2.2
 behind_read line (Cycle name source max) h = pull_again Cycle h.1.2.0 name source max h.0 h.1.2.2
 behind_read line (Ring name others rounds max) h = ring_again h.1.2.0 name others rounds max h.0 h.1.2.2
-behind_read line (Collect name lifetime) h = collect_again h.1.2.0 name lifetime h.1.2.2
-behind_read line (Upgrade name) h = absurd h.0
+behind_read line (Calls name (Collect lifetime)) h = collect_again h.1.2.0 name lifetime h.1.2.2
+behind_read line (Calls name Upgrade) h = absurd h.0
 behind_read line (Revive name guid image parent text) h = absurd h.0
 behind_read line (Backup name bound) h = binding_again Backup h.1.2.0 name bound h.1.2.2
 behind_read line (Restore name image inv) h = restore_again h.1.2.0 name image inv h.1.2.2

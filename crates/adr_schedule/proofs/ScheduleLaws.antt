@@ -7,7 +7,7 @@ use Rattle.std.proofs.lemmas.Bool.{le-ltb, lt-ltb, ltb-false, ltb-true}
 use Rattle.std.proofs.lemmas.List.Elements.{All-cons, All-nil}
 use Rattle.adr_call.specs.Supported.{IsSupported}
 use Rattle.adr_call.specs.declared.event.Event.{Event}
-use Rattle.adr_call.specs.declared.event.Event.TheVariants.{Controller, Time, Write, Ask, Serve, Deliver, Pull, Cycle, Ring, Collect, Upgrade, Revive, Backup, Restore, Install, Snapshot, Rollback, StopAfter, Fail, Stop, Start, Report}
+use Rattle.adr_call.specs.declared.event.Event.TheVariants.{Controller, Time, Calls, Ask, Serve, Deliver, Pull, Cycle, Ring, Revive, Backup, Restore, Install, Snapshot, Rollback, StopAfter, Fail, Stop, Start, Report}
 use Rattle.adr_schedule.specs.declared.fault.Cause.{Cause}
 use Rattle.adr_schedule.specs.declared.fault.Cause.TheVariants.{NotUtf8, NoCommand, UnknownName, NameUsed, IdentifierUsed, TooMany, TooLong}
 use Rattle.adr_schedule.specs.declared.fault.ScheduleFault.{ScheduleFault}
@@ -170,7 +170,7 @@ cause_late : (seen : Seen) (e : Event) (x : Cause) → cause_after seen e ≡ So
 cause_late seen (Controller name dsa inv) x c =
     first_late (if_bound seen.controllers name ∷ if_given seen dsa inv ∷ if_full seen ∷ []) (bound_late seen.controllers name, (given_late seen dsa inv, (full_late seen, tt))) x c
 cause_late seen (Time now) x c = absurd (cc)
-cause_late seen (Write name what) x c = unless_late seen.controllers name x c
+cause_late seen (Calls name what) x c = unless_late seen.controllers name x c
 cause_late seen (Ask name partner max version bound) x c =
     first_late (unless_bound seen.controllers name ∷ unless_bound seen.controllers partner ∷ if_bound seen.requests bound ∷ [])
     (unless_late seen.controllers name, (unless_late seen.controllers partner, (bound_late seen.requests bound, tt))) x c
@@ -184,8 +184,6 @@ cause_late seen (Pull name source max) x c =
 cause_late seen (Cycle name source max) x c =
     first_late (unless_bound seen.controllers name ∷ unless_bound seen.controllers source ∷ []) (unless_late seen.controllers name, (unless_late seen.controllers source, tt)) x c
 cause_late seen (Ring name others rounds max) x c = all_late seen.controllers (name ∷ others) x c
-cause_late seen (Collect name lifetime) x c = unless_late seen.controllers name x c
-cause_late seen (Upgrade name) x c = unless_late seen.controllers name x c
 cause_late seen (Revive name guid image parent text) x c =
     first_late (unless_bound seen.controllers name ∷ unless_bound seen.images image ∷ []) (unless_late seen.controllers name, (unless_late seen.images image, tt)) x c
 cause_late seen (Backup name bound) x c =

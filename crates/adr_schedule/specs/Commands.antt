@@ -8,7 +8,8 @@ use Rattle.adr_call.specs.declared.write.Write.TheVariants.{Add, Modify, Rename,
 use Rattle.adr_call.specs.declared.report.Report.{Report as Asked}
 use Rattle.adr_call.specs.declared.report.Report.TheVariants as reports
 use Rattle.adr_call.specs.declared.event.Event.{Event}
-use Rattle.adr_call.specs.declared.event.Event.TheVariants.{Controller, Time, Write, Ask, Serve, Deliver, Pull, Cycle, Ring, Collect, Backup, Restore, Install, Snapshot, Rollback, StopAfter, Fail, Stop, Start, Report}
+use Rattle.adr_call.specs.declared.call.Call.TheVariants.{Write, Collect}
+use Rattle.adr_call.specs.declared.event.Event.TheVariants.{Controller, Time, Calls, Ask, Serve, Deliver, Pull, Cycle, Ring, Backup, Restore, Install, Snapshot, Rollback, StopAfter, Fail, Stop, Start, Report}
 use Rattle.adr_schedule.specs.Limits.{ask_limit, plan_limit, rounds_limit}
 use Rattle.adr_schedule.specs.Members.{names_at}
 use Rattle.adr_token.specs.Gives.{Reading, ◌>>=◌}
@@ -52,7 +53,7 @@ link_line what bytes = do
   from ← identifier_at name.1
   attr ← attribute_at from.1
   to ← identifier_at attr.1
-  ended to.1 (Write name.0 (what from.0 attr.0 to.0))
+  ended to.1 (Calls name.0 (Write (what from.0 attr.0 to.0)))
 
 -- NUM, between a least and a greatest one
 unfoldable pub number_between : ℕ → ℕ → List ℕ → Reading ℕ
@@ -119,7 +120,7 @@ add_line bytes = do
   class ← class_at guid.1
   parent ← identifier_at class.1
   text ← text_at (unspaced parent.1)
-  option_map (λ values. Write name.0 (Add guid.0 class.0 parent.0 text.0 values)) (sets_at text.1)
+  option_map (λ values. Calls name.0 (Write (Add guid.0 class.0 parent.0 text.0 values))) (sets_at text.1)
 
 -- one set or more
 unfoldable pub modify_line : List ℕ → Option Event
@@ -127,7 +128,7 @@ modify_line bytes = do
   name ← name_at bytes
   guid ← identifier_at name.1
   values ← sets_at guid.1
-  if length values == 0 then None else Some (Write name.0 (Modify guid.0 values))
+  if length values == 0 then None else Some (Calls name.0 (Write (Modify guid.0 values)))
 
 -- how many rounds
 abbrev pub rounds_at : List ℕ → Reading ℕ
@@ -148,13 +149,13 @@ rename_line bytes = do
   guid ← identifier_at name.1
   parent ← identifier_at guid.1
   text ← text_at (unspaced parent.1)
-  ended text.1 (Write name.0 (Rename guid.0 parent.0 text.0))
+  ended text.1 (Calls name.0 (Write (Rename guid.0 parent.0 text.0)))
 
 unfoldable pub delete_line : List ℕ → Option Event
 delete_line bytes = do
   name ← name_at bytes
   guid ← identifier_at name.1
-  ended guid.1 (Write name.0 (Delete guid.0))
+  ended guid.1 (Calls name.0 (Write (Delete guid.0)))
 
 -- the request is of version 1
 unfoldable pub ask_line : List ℕ → Option Event
@@ -176,7 +177,7 @@ unfoldable pub collect_line : List ℕ → Option Event
 collect_line bytes = do
   name ← name_at bytes
   lifetime ← number_at name.1
-  ended lifetime.1 (Collect name.0 lifetime.0)
+  ended lifetime.1 (Calls name.0 (Collect lifetime.0))
 
 unfoldable pub restore_line : List ℕ → Option Event
 restore_line bytes = do

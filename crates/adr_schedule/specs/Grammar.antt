@@ -9,8 +9,10 @@ use Rattle.adr_call.specs.declared.write.Write.{Write as Written}
 use Rattle.adr_call.specs.declared.write.Write.TheVariants.{Add, Modify, Rename, Delete, Link, Unlink}
 use Rattle.adr_call.specs.declared.report.Report.{Report as Asked}
 use Rattle.adr_call.specs.declared.report.Report.TheVariants as reports
+use Rattle.adr_call.specs.declared.call.Call.{Call}
+use Rattle.adr_call.specs.declared.call.Call.TheVariants.{Write, Collect, Upgrade}
 use Rattle.adr_call.specs.declared.event.Event.{Event}
-use Rattle.adr_call.specs.declared.event.Event.TheVariants.{Controller, Time, Write, Ask, Serve, Deliver, Pull, Cycle, Ring, Collect, Upgrade, Revive, Backup, Restore, Install, Snapshot, Rollback, StopAfter, Fail, Stop, Start, Report}
+use Rattle.adr_call.specs.declared.event.Event.TheVariants.{Controller, Time, Calls, Ask, Serve, Deliver, Pull, Cycle, Ring, Revive, Backup, Restore, Install, Snapshot, Rollback, StopAfter, Fail, Stop, Start, Report}
 use Rattle.adr_call.specs.Verbs.{verb_of, word_of}
 use Rattle.adr_token.specs.Words.{unspaced, is_name}
 use Rattle.adr_token.specs.Laws.{Stands}
@@ -46,9 +48,14 @@ given_in (Add guid class parent text values) = values
 given_in (Modify guid values) = values
 given_in _ = []
 
+-- what the sets of a call's line give
+abbrev pub given_for : Call → List Given
+given_for (Write what) = given_in what
+given_for _ = []
+
 -- what the sets of an event's line give
 abbrev pub given_by : Event → List Given
-given_by (Write name what) = given_in what
+given_by (Calls name what) = given_for what
 given_by _ = []
 
 -- what a line has a controller write, the sets in this order
@@ -59,6 +66,12 @@ tokens_written order (Rename guid parent text) = Identifier guid ∷ Identifier 
 tokens_written order (Delete guid) = Identifier guid ∷ []
 tokens_written order (Link from attr to) = Identifier from ∷ Attribute attr ∷ Identifier to ∷ []
 tokens_written order (Unlink from attr to) = Identifier from ∷ Attribute attr ∷ Identifier to ∷ []
+
+-- what a client has a controller do
+abbrev pub tokens_called : List Given → Call → List Token
+tokens_called order (Write what) = tokens_written order what
+tokens_called order (Collect lifetime) = Number lifetime ∷ []
+tokens_called order Upgrade = []
 
 -- what a controller is asked for
 abbrev pub tokens_asked : Asked → List Token
@@ -71,14 +84,13 @@ tokens_asked (reports.Meta guid) = Identifier guid ∷ []
 unfoldable pub tokens_behind : List Given → Event → List Token
 tokens_behind order (Controller name dsa inv) = Name name ∷ Identifier dsa ∷ Identifier inv ∷ []
 tokens_behind order (Time now) = Number now ∷ []
-tokens_behind order (Write name what) = Name name ∷ tokens_written order what
+tokens_behind order (Calls name what) = Name name ∷ tokens_called order what
 tokens_behind order (Ask name partner max version bound) = Name name ∷ Name partner ∷ Number max ∷ Word (codes "as") ∷ Name bound ∷ []
 tokens_behind order (Serve name request bound) = Name name ∷ Name request ∷ Word (codes "as") ∷ Name bound ∷ []
 tokens_behind order (Deliver name reply) = Name name ∷ Name reply ∷ []
 tokens_behind order (Pull name source max) = Name name ∷ Name source ∷ Number max ∷ []
 tokens_behind order (Cycle name source max) = Name name ∷ Name source ∷ Number max ∷ []
 tokens_behind order (Ring name others rounds max) = Number rounds ∷ Number max ∷ Name name ∷ named others
-tokens_behind order (Collect name lifetime) = Name name ∷ Number lifetime ∷ []
 tokens_behind order (Backup name bound) = Name name ∷ Word (codes "as") ∷ Name bound ∷ []
 tokens_behind order (Restore name image inv) = Name name ∷ Name image ∷ Identifier inv ∷ []
 tokens_behind order (Install name dsa image inv) = Name name ∷ Identifier dsa ∷ Name image ∷ Identifier inv ∷ []
@@ -140,20 +152,24 @@ AreGiven (Add guid class parent text values) = AreRising values
 AreGiven (Modify guid values) = AreRising values × (0 < length values)
 AreGiven _ = Unit {0}
 
+-- a call that has a line
+abbrev pub HasCallLine : Call → Type 0
+HasCallLine (Write what) = AreGiven what
+HasCallLine (Collect lifetime) = Unit {0}
+HasCallLine Upgrade = ⊥
+
 -- what the tokens of an event don't say: how many items are asked for and that the request is of version 1, how many calls a plan lets pass, and how
 -- values are given; some events have no line
 abbrev pub HasLine : Event → Type 0
 HasLine (Controller name dsa inv) = Unit {0}
 HasLine (Time now) = Unit {0}
-HasLine (Write name what) = AreGiven what
+HasLine (Calls name what) = HasCallLine what
 HasLine (Ask name partner max version bound) = IsLimit max × (version ≡ 1)
 HasLine (Serve name request bound) = Unit {0}
 HasLine (Deliver name reply) = Unit {0}
 HasLine (Pull name source max) = IsLimit max
 HasLine (Cycle name source max) = IsLimit max
 HasLine (Ring name others rounds max) = AreRounds rounds × IsLimit max × AreMembers name others
-HasLine (Collect name lifetime) = Unit {0}
-HasLine (Upgrade name) = ⊥
 HasLine (Revive name guid image parent text) = ⊥
 HasLine (Backup name bound) = Unit {0}
 HasLine (Restore name image inv) = Unit {0}

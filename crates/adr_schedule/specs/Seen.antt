@@ -5,7 +5,7 @@ use Rattle.std.specs.List.{list_any}
 use Rattle.std.specs.Str.{bytes_eq}
 use Rattle.adr_values.specs.First.{first_of}
 use Rattle.adr_call.specs.declared.event.Event.{Event}
-use Rattle.adr_call.specs.declared.event.Event.TheVariants.{Controller, Time, Write, Ask, Serve, Deliver, Pull, Cycle, Ring, Collect, Upgrade, Revive, Backup, Restore, Install, Snapshot, Rollback, StopAfter, Fail, Stop, Start, Report}
+use Rattle.adr_call.specs.declared.event.Event.TheVariants.{Controller, Time, Calls, Ask, Serve, Deliver, Pull, Cycle, Ring, Revive, Backup, Restore, Install, Snapshot, Rollback, StopAfter, Fail, Stop, Start, Report}
 use Rattle.adr_schedule.specs.declared.fault.Cause.{Cause}
 use Rattle.adr_schedule.specs.declared.fault.Cause.TheVariants.{UnknownName, NameUsed, IdentifierUsed, TooMany}
 use Rattle.adr_schedule.specs.Limits.{controller_limit}
@@ -58,7 +58,7 @@ unless_all_bound names used = then_some (is_any_unbound names used) UnknownName
 abbrev pub cause_after : Seen → Event → Option Cause
 cause_after seen (Controller name dsa inv) = first_of (if_bound seen.controllers name ∷ if_given seen dsa inv ∷ if_full seen ∷ [])
 cause_after seen (Time now) = None
-cause_after seen (Write name what) = unless_bound seen.controllers name
+cause_after seen (Calls name what) = unless_bound seen.controllers name
 cause_after seen (Ask name partner max version bound) =
     first_of (unless_bound seen.controllers name ∷ unless_bound seen.controllers partner ∷ if_bound seen.requests bound ∷ [])
 cause_after seen (Serve name request bound) =
@@ -67,8 +67,6 @@ cause_after seen (Deliver name reply) = first_of (unless_bound seen.controllers 
 cause_after seen (Pull name source max) = first_of (unless_bound seen.controllers name ∷ unless_bound seen.controllers source ∷ [])
 cause_after seen (Cycle name source max) = first_of (unless_bound seen.controllers name ∷ unless_bound seen.controllers source ∷ [])
 cause_after seen (Ring name others rounds max) = unless_all_bound seen.controllers (name ∷ others)
-cause_after seen (Collect name lifetime) = unless_bound seen.controllers name
-cause_after seen (Upgrade name) = unless_bound seen.controllers name
 cause_after seen (Revive name guid image parent text) = first_of (unless_bound seen.controllers name ∷ unless_bound seen.images image ∷ [])
 cause_after seen (Backup name bound) = first_of (unless_bound seen.controllers name ∷ if_bound seen.images bound ∷ [])
 cause_after seen (Restore name image inv) =

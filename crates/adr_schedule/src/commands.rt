@@ -11,7 +11,7 @@ use crate::limits::{ASK_LIMIT, PLAN_LIMIT, ROUNDS_LIMIT};
 use crate::members::members;
 use crate::sets::sets;
 use crate::verb::{CopyVerb, LinkVerb, PullVerb, UseVerb, verb_said};
-use adr_call::{Event, Failure, Report, Verb, Write};
+use adr_call::{Call, Event, Failure, Report, Verb, Write};
 use adr_disk::Crash;
 use adr_token::{Bad, Line, Stop, without_spaces};
 use adr_values::{Guid, Text};
@@ -79,7 +79,13 @@ fn linked(alloc: Global, verb: LinkVerb, line: &mut Line<'_>) -> Result<Event, S
         LinkVerb::Link => Write::Link { from, attr, to },
         LinkVerb::Unlink => Write::Unlink { from, attr, to },
     };
-    ended(line, Event::Write { name, what })
+    ended(
+        line,
+        Event::Calls {
+            name,
+            what: Call::Write(what),
+        },
+    )
 }
 
 /// A number between a least and a greatest one.
@@ -176,7 +182,10 @@ fn add(alloc: Global, line: &mut Line<'_>) -> Result<Event, Stop>
         text,
         values,
     };
-    Ok(Event::Write { name, what })
+    Ok(Event::Calls {
+        name,
+        what: Call::Write(what),
+    })
 }
 
 /// ROUNDS MAX NAME NAME.., each name once.
@@ -210,7 +219,10 @@ fn modify(alloc: Global, line: &mut Line<'_>) -> Result<Event, Stop>
         return Err(Failure::Refused(Bad));
     }
     let what = Write::Modify { guid, values };
-    Ok(Event::Write { name, what })
+    Ok(Event::Calls {
+        name,
+        what: Call::Write(what),
+    })
 }
 
 #[tactic(auto, unfolding(crate::specs::Commands::rename_line))]
@@ -223,7 +235,13 @@ fn rename(alloc: Global, line: &mut Line<'_>) -> Result<Event, Stop>
     line.skip_spaces();
     let text = line.text(alloc)?;
     let what = Write::Rename { guid, parent, text };
-    ended(line, Event::Write { name, what })
+    ended(
+        line,
+        Event::Calls {
+            name,
+            what: Call::Write(what),
+        },
+    )
 }
 
 #[tactic(auto, unfolding(crate::specs::Commands::delete_line))]
@@ -233,7 +251,13 @@ fn delete(alloc: Global, line: &mut Line<'_>) -> Result<Event, Stop>
     let name = line.name(alloc)?;
     let guid = line.identifier()?;
     let what = Write::Delete { guid };
-    ended(line, Event::Write { name, what })
+    ended(
+        line,
+        Event::Calls {
+            name,
+            what: Call::Write(what),
+        },
+    )
 }
 
 #[tactic(auto, unfolding(crate::specs::Commands::ask_line))]
@@ -279,7 +303,13 @@ fn collect(alloc: Global, line: &mut Line<'_>) -> Result<Event, Stop>
 {
     let name = line.name(alloc)?;
     let lifetime = line.number()?;
-    ended(line, Event::Collect { name, lifetime })
+    ended(
+        line,
+        Event::Calls {
+            name,
+            what: Call::Collect { lifetime },
+        },
+    )
 }
 
 #[tactic(auto, unfolding(crate::specs::Commands::restore_line))]

@@ -235,9 +235,7 @@ impl Seen {
                 snapshot,
             ),
             Event::Revive { name, image, .. } => self.cause_of_use(name, &self.images, image),
-            Event::Write { name, .. }
-            | Event::Collect { name, .. }
-            | Event::Upgrade { name }
+            Event::Calls { name, .. }
             | Event::StopAfter { name, .. }
             | Event::Fail { name, .. }
             | Event::Stop { name }

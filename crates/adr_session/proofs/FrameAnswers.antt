@@ -10,7 +10,7 @@ use Rattle.adr_controller.specs.Running.{Running, IsInOrder}
 use Rattle.adr_session.specs.declared.ending.ServeFault.{ServeFault}
 use Rattle.adr_session.specs.declared.ending.ServeFault.TheVariants as faults
 use Rattle.adr_outside.specs.Given.{Takes}
-use Rattle.adr_session.specs.Lines.{deed_said}
+use Rattle.adr_session.specs.Lines.{call_said}
 use Rattle.adr_session.specs.Talk.{Answered, Gives, Said, Reaction, Sends, acts, reacts}
 use Rattle.adr_law_controller.specs.Keeping.{Stands}
 use Rattle.adr_session.specs.Told.{FindsOneOf, ReactsSo}
@@ -141,7 +141,7 @@ pub same_err : {A E : Type 0} (r : Result A E) (x y : E) → r ≡ Err x → r �
 same_err r x y first second = cc (first, second)
 
 -- a line takes the first of the moments that the clock is going to give
-pub line_sent : (body : List ℕ) (now : ℕ) (before after : Option (List ℕ)) → IfSome before (λ moments. Takes now moments after) → IsSent (λ f. acts f now (deed_said body)) (Some (Gives body)) before after
+pub line_sent : (body : List ℕ) (now : ℕ) (before after : Option (List ℕ)) → IfSome before (λ moments. Takes now moments after) → IsSent (λ f. acts f now (call_said body)) (Some (Gives body)) before after
 line_sent body now before after taken f moments is =
     let t = at_told before (λ moments. Takes now moments after) moments is taken in
     (t.0, ap (λ (moments : List ℕ). reacts f moments (Some (Gives body))) t.1, t.2)

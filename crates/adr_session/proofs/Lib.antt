@@ -8,5 +8,5 @@ pub mod Making
 pub mod FrameAnswers
 pub mod CallAnswers
 pub mod FrameKinds
-pub mod LineDeeds
+pub mod LineCalls
 pub mod Saying

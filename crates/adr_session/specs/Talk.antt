@@ -5,9 +5,10 @@ use Rattle.adr_call.specs.declared.refusal.ServeRefusal.{ServeRefusal}
 use Rattle.adr_call.specs.declared.refusal.ServeRefusal.TheVariants as serves
 use Rattle.adr_call.specs.declared.refusal.Table.TheVariants.{Log}
 use Rattle.adr_wire.specs.declared.refusal.DecodeRefusal.{DecodeRefusal}
-use Rattle.adr_call.specs.Verbs.{word_of}
+use Rattle.adr_call.specs.Verbs.{verb_of_call, word_of}
 use Rattle.adr_answers.specs.Line.{nameless_line}
 use Rattle.adr_model.specs.Change.{Change, after}
+use Rattle.adr_model.specs.Client.{Done, call_meant, done}
 use Rattle.adr_model.specs.Collect.{quarantine}
 use Rattle.adr_model.specs.Lengths.{change_fits, log_limit, next_log}
 use Rattle.adr_model.specs.Refused.{full}
@@ -21,8 +22,8 @@ use Rattle.adr_packet.specs.declared.refusal.Refusal.{Refusal}
 use Rattle.adr_packet.specs.declared.refusal.Refusal.TheVariants.{Serve, LogFull}
 use Rattle.adr_frames.specs.Frames.{Next, IsOver, IsBroken, IsFrame, next_in, frame}
 use Rattle.adr_frames.specs.Messages.{has_line_feed}
-use Rattle.adr_session.specs.declared.lines.Deed.{Deed}
-use Rattle.adr_session.specs.Lines.{deed_said, done, verb_of_deed}
+use Rattle.adr_call.specs.declared.call.Call.{Call}
+use Rattle.adr_session.specs.Lines.{call_said}
 
 -- ---- what a client says
 
@@ -81,23 +82,23 @@ replies f (Ok reply) = (f, 2 ∷ reply_bytes reply)
 replies f (Err refusal) = refuses f refusal
 
 -- the bytes of the frame that answers a line
-abbrev pub told : Deed → Outcome → List ℕ
-told deed outcome = 5 ∷ nameless_line (word_of (verb_of_deed deed)) outcome
+abbrev pub told : Call → Outcome → List ℕ
+told call outcome = 5 ∷ nameless_line (word_of (verb_of_call call)) outcome
 
--- a deed is told by its outcome, or by a full log
-abbrev pub did : Found State → Deed → Outcome × Option Change → Answered
-did f deed (outcome, None) = (f, told deed outcome)
-did f deed (outcome, Some c) = committed f c (told deed outcome) (told deed (full Log log_limit))
+-- a call is told by its outcome, or by a full log
+abbrev pub did : Found State → Call → Done → Answered
+did f call (outcome, None) = (f, told call outcome)
+did f call (outcome, Some c) = committed f c (told call outcome) (told call (full Log log_limit))
 
--- a line that says no deed is a bad one
-abbrev pub acts : Found State → ℕ → Option Deed → Answered
+-- a line that says no call is a bad one
+abbrev pub acts : Found State → ℕ → Option Call → Answered
 acts f now None = (f, 5 ∷ codes "bad line")
-acts f now (Some deed) = did f deed (done f.state now deed)
+acts f now (Some call) = did f call (done f.state (call_meant call now))
 
 -- what is said is answered; requests are of version 1, whose replies tell no moment
 abbrev pub answered : Found State → ℕ → Said → Answered
 answered f now (Asks request) = replies f (serve f.state request 0)
-answered f now (Gives line) = acts f now (deed_said line)
+answered f now (Gives line) = acts f now (call_said line)
 answered f now Greets = (f, 7 ∷ f.state.dsa)
 
 -- ---- one message

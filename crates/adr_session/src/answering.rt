@@ -1,7 +1,7 @@
 //! What a client says, and what it is answered.
 
 ghost use Rattle.std.specs.Prelude.{◌≡◌, ◌⊎◌, ◌<◌, ◌≤◌, ◌∷◌, ℕ, List, Option, true, IsErrOf, IsSome};
-ghost use Rattle.adr_session.specs.Lines.{deed_said};
+ghost use Rattle.adr_session.specs.Lines.{call_said};
 ghost use Rattle.adr_session.specs.Made.{Makes, Reacts};
 ghost use Rattle.adr_session.specs.Talk.{acts, is_line, said_in};
 ghost use Rattle.adr_law_controller.specs.Keeping.{KeepsLog};
@@ -10,7 +10,7 @@ ghost use Rattle.adr_session.specs.Told.{SaysLine};
 use crate::acting::act;
 use crate::ending::ServeFault;
 use crate::framing::{greet, is_line};
-use crate::lines::deed_said;
+use crate::lines::call_said;
 use crate::replying::reply_to;
 use adr_controller::{Controller, Keeper};
 use adr_frames::{GREETING, LINE, OUTCOME, REQUEST, framed};
@@ -41,7 +41,7 @@ fn answer_request<K: Keeper>(
     Ok(Some(reply_to(alloc, controller, &request)?))
 }
 
-/// What a line is answered at a moment in seconds: a bad one is told so, and else its deed is done.
+/// What a line is answered at a moment in seconds: a bad one is told so, and else its call is done.
 fn answer_at<K: Keeper>(
     alloc: Global,
     controller: &mut Controller<K>,
@@ -50,11 +50,11 @@ fn answer_at<K: Keeper>(
 ) -> Result<Vec<u8>, ServeFault>
     requires up { IsSome controller.old.state }
     requires log { KeepsLog K.Keeper }
-    ensures { Makes (λ v. v.items) K.Keeper (λ f. acts f now (deed_said line.now)) controller.old controller.new result }
+    ensures { Makes (λ v. v.items) K.Keeper (λ f. acts f now (call_said line.now)) controller.old controller.new result }
 {
     let _ = controller.state();
-    match deed_said(alloc, line)? {
-        Some(deed) => act(alloc, controller, &deed, now),
+    match call_said(alloc, line)? {
+        Some(call) => act(alloc, controller, &call, now),
         None => Ok(framed(alloc, OUTCOME, b"bad line")?),
     }
 }

@@ -16,10 +16,11 @@ mod replying;
 mod serving;
 mod turning;
 
+pub use adr_call::Call;
 pub use adr_controller::{Controller, Keeper};
 pub use adr_outside::{Clock, Net};
 pub use ending::{End, ServeFault, Served};
 pub use framing::LINE_LIMIT;
 pub use laws::worked_session;
-pub use lines::{Deed, deed_said};
+pub use lines::call_said;
 pub use serving::serve_one;

@@ -1,6 +1,5 @@
 mod ItemLengths
 mod Tied
-mod Known
 mod Alive
 mod Core
 mod Drafting

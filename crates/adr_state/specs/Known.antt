@@ -1,17 +1,16 @@
 -- What a change writes over what is there, and so needs no room for.
-use Rattle.std.specs.Prelude.{List, Option, Bool, ◌&&◌, ◌||◌, ◌==◌, nat_lt, IfSome, IsSome}
+use Rattle.std.specs.Prelude.{List, length, Option, Bool, ◌&&◌, ◌||◌, ◌==◌, nat_lt, IfSome, IsSome}
 use Rattle.std.specs.Map.{lookup}
 use Rattle.std.specs.BTreeMap.{is_at}
 use Rattle.adr_values.specs.Order.{identifier_order}
 use Rattle.adr_values.specs.Vector.{Cursors, at}
-use Rattle.adr_values.specs.Known.{has_cursors_of}
 use Rattle.adr_model.specs.Update.{Identifier}
 use Rattle.adr_model.specs.Store.{PartnerMark}
 use Rattle.adr_model.specs.Change.{Change}
 
--- whether a vector has each cursor that a change joins, and the own one, unless no USN was used
-abbrev pub has_cursors_for : Cursors → Identifier → Change → Bool
-has_cursors_for vector inv change = has_cursors_of vector change.joined && (change.usn == 0 || nat_lt 0 (at vector inv))
+-- whether a change joins nothing, and the own cursor is there, unless no USN was used
+abbrev pub raises_at_most_own : Cursors → Identifier → Change → Bool
+raises_at_most_own vector inv change = (length change.joined == 0) && (change.usn == 0 || nat_lt 0 (at vector inv))
 
 -- the mark, if there is one, is of a partner of whom something is kept
 abbrev pub IsOfKnown : List (Identifier × PartnerMark) → Option (Identifier × PartnerMark) → Type 0

@@ -4,7 +4,7 @@ ghost use Rattle.std.specs.Prelude.{◌≡◌, ◌≤◌, ◌<◌, ◌+◌, ◌*
 ghost use Rattle.adr_model.specs.Update.{Update as Row};
 ghost use Rattle.adr_model.specs.Change.{Written as Wrote};
 ghost use Rattle.adr_model.specs.Store.{Store};
-ghost use Rattle.adr_model.specs.Lengths.{area_at, change_length, checkpointed, first_area, image_length, is_due, length_limit, log_after, log_limit};
+ghost use Rattle.adr_model.specs.Lengths.{area_at, change_length, checkpointed, first_area, image_length, is_due, length_limit, log_after, log_limit, timed_length};
 ghost use Rattle.adr_model.specs.Serve.{content_length, item_length, value_length, vector_length};
 ghost use Rattle.adr_update.specs.Said.{said_of};
 
@@ -17,7 +17,7 @@ use std::marker::Model;
 pub const LENGTH_LIMIT: u64 = 4_294_967_296;
 
 /// The version of the areas that are written.
-const AREA_VERSION: u16 = 1;
+const AREA_VERSION: u16 = 2;
 
 /// The place of the area of a new log, and the first at which any area stands, in bytes.
 pub const FIRST_AREA: u64 = 56;
@@ -171,8 +171,8 @@ impl Log {
 fn change_length_within(change: &Change, limit: u64) -> u64
     ensures { result ≡ min limit (change_length change.now) }
 {
-    let head = sum_within(limit, 18, mark_within(limit, change.mark().is_some()));
-    let joined = vector_within(limit, change.joined());
+    let head = sum_within(limit, 22, mark_within(limit, change.mark().is_some()));
+    let joined = timed_within(limit, change.joined());
     let purged = vector_within(limit, change.purged());
     let removed = product_within(limit, 40, change.removed().len() as u64);
     let writes = writes_within(limit, change.writes());
@@ -192,6 +192,13 @@ fn vector_within(limit: u64, vector: &Vector) -> u64
     ensures { result ≡ min limit (vector_length vector.now) }
 {
     sum_within(limit, 4, product_within(limit, 24, vector.len() as u64))
+}
+
+/// The length of a vector with its times.
+fn timed_within(limit: u64, vector: &Vector) -> u64
+    ensures { result ≡ min limit (timed_length vector.now) }
+{
+    sum_within(limit, 4, product_within(limit, 32, vector.len() as u64))
 }
 
 /// The length of writes, each with its local update sequence number.

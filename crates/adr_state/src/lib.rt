@@ -23,7 +23,8 @@ pub use adr_update::{
     Said, USN_LIMIT, Update, VERSION_LIMIT, Written, is_same, is_same_object,
 };
 pub use adr_values::{
-    CURSOR_LIMIT, Content, Failure, Full, LinkKey, LinkStamp, Mark, NoMemory, Oid, Unit, Vector,
+    CURSOR_LIMIT, Content, Failure, Full, LinkKey, LinkStamp, Mark, NoMemory, Oid, Times, Unit,
+    Vector,
 };
 pub use lengths::{AREA_FRAME, AREA_FRONT, FIRST_AREA, LENGTH_LIMIT, Log, item_length_within};
 pub use marks::Marks;

@@ -7,7 +7,7 @@ ghost use Rattle.adr_values.specs.Vector.{joined, raised, cursor_limit};
 ghost use Rattle.adr_model.specs.Store.{empty_state, empty_store};
 ghost use Rattle.adr_model.specs.Change.{after};
 ghost use Rattle.adr_model.specs.Lengths.{first_log_end, new_log};
-ghost use Rattle.adr_state.specs.Known.{has_cursors_for};
+ghost use Rattle.adr_state.specs.Known.{raises_at_most_own};
 ghost use Rattle.adr_change.specs.Mode.{mode_of};
 ghost use Rattle.adr_state.specs.Refusal.{IsOverfull};
 
@@ -15,7 +15,7 @@ use crate::marks::Marks;
 use crate::rows::Rows;
 use adr_change::{Change, Mode};
 use adr_checks::Schema;
-use adr_values::{Failure, Full, Guid, Vector};
+use adr_values::{Failure, Full, Guid, NoMemory, Times, Vector};
 use std::alloc::Global;
 use std::marker::Model;
 
@@ -32,6 +32,7 @@ pub struct State {
     schema: Schema,
     rows: Rows,
     vector: Vector,
+    times: Times,
     purged: Vector,
     marks: Marks,
 }
@@ -47,6 +48,7 @@ impl Drop for State {
             schema: _,
             rows: _rows,
             vector: _vector,
+            times: _times,
             purged: _purged,
             marks: _marks,
         } = self;
@@ -62,7 +64,7 @@ impl Model for State {
     ghost use Rattle.adr_values.specs.Numbered.{numbered};
     ghost use Rattle.adr_change.specs.Mode.{mode_of};
 
-    ghost view = { λ s. record { dsa = s.dsa; inv = s.inv; mode = mode_of s.mode; store = record { schema = s.schema.number; usn = s.usn; rows = s.rows; vector = s.vector; times = []; purged = s.purged; marks = s.marks } } };
+    ghost view = { λ s. record { dsa = s.dsa; inv = s.inv; mode = mode_of s.mode; store = record { schema = s.schema.number; usn = s.usn; rows = s.rows; vector = s.vector; times = s.times; purged = s.purged; marks = s.marks } } };
 
     ghost invariant = { λ s. s.schema ≡ numbered s.schema.number };
 }
@@ -82,6 +84,7 @@ impl State {
             schema,
             rows: Rows::new(alloc),
             vector: Vector::new(alloc),
+            times: Times::new(alloc),
             purged: Vector::new(alloc),
             marks: Marks::new(alloc),
         }
@@ -144,11 +147,11 @@ impl State {
         &self.vector
     }
 
-    /// Of no incarnation is it known when it was last read whole.
-    pub fn knows_no_times(&self)
-        ensures { self.now.store.times ≡ [] }
+    /// When each incarnation was last read whole, where that is known.
+    pub fn times(&self) -> &Times
+        ensures { result.now ≡ self.now.store.times }
     {
-        let _ = &self.usn;
+        &self.times
     }
 
     /// What covers the births and deaths of the objects that were collected.
@@ -178,6 +181,7 @@ impl State {
         // What can fail comes first, and leaves everything as it was.
         let alloc = self.alloc;
         let vector = self.vector_after(alloc, &change)?;
+        let times = self.times_after(alloc, &change)?;
         let purged = self.purged_after(alloc, &change)?;
         let marks = self.marks.with_new(alloc, change.mark())?;
         let rows = change.take_held(alloc)?;
@@ -186,10 +190,10 @@ impl State {
         self.mode = change.mode();
         self.schema = change.schema();
         renew_seen(&mut self.vector, vector, self.inv, &change);
+        renew_times(&mut self.times, times);
         renew(&mut self.purged, purged);
         self.marks.renew(marks, change.mark());
         are_few(&self.vector);
-        change.joins_no_times();
         Ok(())
     }
 
@@ -200,20 +204,32 @@ impl State {
         self.marks = marks;
     }
 
-    /// What will have been seen after a change; nothing where the cursors that are there serve.
+    /// What will have been seen after a change; nothing where no more than the own cursor is raised, which is there.
     fn vector_after(&self, alloc: Global, change: &Change) -> Result<Option<Vector>, Failure<Full>>
         ensures new { IfOk result (λ vector.
             IfSome vector (λ seen. seen ≡ (after self.now change.now).store.vector)) }
         ensures known { IfOk result (λ vector.
-            IfNone vector (has_cursors_for self.now.store.vector self.now.inv change.now ≡ true)) }
+            IfNone vector (raises_at_most_own self.now.store.vector self.now.inv change.now ≡ true)) }
         ensures full { IsErrOf result full → cursor_limit < length (after self.now change.now).store.vector }
     {
-        if has_cursors_for(&self.vector, self.inv, change) {
+        if raises_at_most_own(&self.vector, self.inv, change) {
             return Ok(None);
         }
         let mut vector = self.vector.joined(alloc, change.joined())?;
         vector.raise(self.inv, change.usn())?;
         Ok(Some(vector))
+    }
+
+    /// The times after a change; nothing where they stay as they are.
+    fn times_after(&self, alloc: Global, change: &Change) -> Result<Option<Times>, NoMemory>
+        ensures { IfOk result (λ times.
+            unwrap_or times self.now.store.times ≡ (after self.now change.now).store.times) }
+    {
+        if change.times().is_empty() {
+            return Ok(None);
+        }
+        let times = self.times.joined(alloc, change.times())?;
+        Ok(Some(times))
     }
 
     /// What covers all that was collected after a change; nothing where that stays as it is.
@@ -232,32 +248,23 @@ impl State {
     }
 }
 
-/// Whether a vector has all the cursors that a change needs.
-fn has_cursors_for(vector: &Vector, inv: Guid, change: &Change) -> bool
-    ensures { result ≡ has_cursors_for vector.now inv change.now }
+/// Whether a change joins nothing into a vector, and has the own cursor there, unless it uses no number.
+fn raises_at_most_own(vector: &Vector, inv: Guid, change: &Change) -> bool
+    ensures { result ≡ raises_at_most_own vector.now inv change.now }
 {
-    vector.has_cursors_of(change.joined()) && (change.usn() == 0 || vector.at(inv) > 0)
+    change.joined().len() == 0 && (change.usn() == 0 || vector.at(inv) > 0)
 }
 
-/// Another vector takes the place of this one, if there is one; else its cursors are raised.
+/// Another vector takes the place of this one, if there is one; else the own cursor is raised.
 fn renew_seen(vector: &mut Vector, other: Option<Vector>, inv: Guid, change: &Change)
-    requires { IfNone other (has_cursors_for vector.old inv change.now ≡ true) }
+    requires { IfNone other (raises_at_most_own vector.old inv change.now ≡ true) }
     ensures { vector.new
         ≡ unwrap_or other (raised (joined vector.old change.now.joined) inv change.now.usn) }
 {
     match other {
         Some(other) => *vector = other,
-        None => raise_cursors(vector, inv, change),
+        None => vector.raise_known(inv, change.usn()),
     }
-}
-
-/// Raises the cursors of a vector to what a change brings.
-fn raise_cursors(vector: &mut Vector, inv: Guid, change: &Change)
-    requires { has_cursors_for vector.old inv change.now ≡ true }
-    ensures { vector.new ≡ raised (joined vector.old change.now.joined) inv change.now.usn }
-{
-    vector.join_known(change.joined());
-    vector.raise_known(inv, change.usn());
 }
 
 /// Another vector takes the place of this one, if there is one.
@@ -266,6 +273,15 @@ fn renew(vector: &mut Vector, other: Option<Vector>)
 {
     if let Some(other) = other {
         *vector = other;
+    }
+}
+
+/// Other times take the place of these, if there are others.
+fn renew_times(times: &mut Times, other: Option<Times>)
+    ensures { times.new ≡ unwrap_or other times.old }
+{
+    if let Some(other) = other {
+        *times = other;
     }
 }
 

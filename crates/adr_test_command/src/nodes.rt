@@ -26,14 +26,27 @@ const DONE: Case = Case {
 
 /// The image of an empty controller: its head, the number of its schema, and counts and a USN of 0.
 const EMPTY: &[u8] =
+    b"ADIM\x00\x02\x00\x00\x00\x01\0\0\0\0\0\0\0\0\0\0\0\0\0\0\0\0\0\0\0\0\0\0\0\0\0\0\0\0";
+
+/// The one that an earlier build made of it.
+const EARLIER: &[u8] =
     b"ADIM\x00\x01\x00\x00\x00\x01\0\0\0\0\0\0\0\0\0\0\0\0\0\0\0\0\0\0\0\0\0\0\0\0\0\0\0\0";
 
-/// The image of a controller with one container, written by `#a1`: its head and USN, one cursor, no collected and no marks;
-/// one object with its class and its name; no links.
+/// The image that an earlier build made of a controller with one container, written by `#a1`: its head and USN, one cursor,
+/// no collected and no marks; one object with its class and its name; no links.
 const CONTAINER: &[u8] =
     b"ADIM\0\x01\0\0\0\x01\0\0\0\0\0\0\0\x01\0\0\0\x01\0\0\0\0\0\0\0\0\0\0\0\0\0\0\0\xa1\0\0\0\0\0\0\0\x01\0\0\0\0\0\0\0\0\0\0\0\x01\0\0\0\0\0\0\0\0\0\0\0\0\0\0\0\x10\0\0\0\0\0\0\0\0\0\0\0\0\0\0\0\xa1\0\0\0\0\0\0\0\x01\0\x02\0\0\0\0\0\0\0\x01\0\x01\0\0\0\x01\0\0\0\0\0\0\0\0\0\0\0\0\0\0\0\0\0\0\0\0\0\0\0\xa1\0\0\0\0\0\0\0\x01\0\x04\0\0\0\0\0\0\0\x01\0\x02\0\0\0\x01\0\0\0\0\0\0\0\0\0\0\0\0\0\0\0\0\0\0\0\0\0\0\0\xa1\0\0\0\0\0\0\0\x01\0\0\0\0\0\0\0\0\0\0\0\0\0\0\0\x01\0\x01x\0\0\0\0";
 
-const LATER: &[u8] = b"ADIM\x00\x02\x00\x00\x00\x01";
+/// The log that an earlier build made of an empty controller `#a0`, `#a1`: a gate, whose log it is, a selector and two
+/// slots, an area with that image, and a gate.
+const LOG: &[&[u8]] = &[
+    b"\xC3ADJL\0\x02\0\0\0\0\0\0\0\0\0\0\0\0\0\0\0\xa0\0\0\0\0\0\0\0\0\0\0\0\0\0\0\0\xa1",
+    b"\0\0\0\0\0\0\0\0\x38\0\0\0\0\0\0\0\x38\0\x01\0\0\0\x26",
+    EARLIER,
+    b"\0",
+];
+
+const LATER: &[u8] = b"ADIM\x00\x03\x00\x00\x00\x01";
 
 /// The status, and what has become of all.
 fn outcome(
@@ -120,7 +133,7 @@ const FIRST: &[Case] = &[
     Case {
         words: &["install", "N2"],
         fresh: &[0xc0, 0xc1],
-        source: EMPTY,
+        source: EARLIER,
         written: b"install N2: ok\n",
         ..DONE
     },
@@ -143,7 +156,7 @@ const FIRST: &[Case] = &[
         fresh: &[0xc0],
         source: LATER,
         status: 9,
-        written: b"refused WrongVersion found=2\n",
+        written: b"refused WrongVersion found=3\n",
     },
     Case {
         words: &["create", "N1"],
@@ -175,6 +188,25 @@ fn controllers_of_images(rt: HostRuntime) -> Result<(), Fail> {
         assert_eq!(rt; status, case.status);
         assert_eq!(rt; after.sink.bytes(), case.written);
         assert_eq!(rt; after.disk.bytes(rt.alloc())?.is_empty(), case.status != 0);
+    }
+    Ok(())
+}
+
+/// What a file of an earlier build shows, and its image now.
+const BEFORE: &[(&[&str], &[u8])] = &[
+    (&["show", "N1"], b"show N1: 0\n"),
+    (&["backup", "N1"], EMPTY),
+];
+
+#[test]
+fn a_log_of_an_earlier_build_is_shown(rt: HostRuntime) -> Result<(), Fail> {
+    for (words, written) in BEFORE {
+        let bytes = LOG.concat(rt.alloc())?;
+        assert_eq!(rt; bytes.len(), 101);
+        let disk = MemDisk::of(rt.alloc(), bytes);
+        let case = Case { words, ..DONE };
+        let (status, after) = outcome(rt.alloc(), &case, disk, Failing::Never)?;
+        assert_eq!(rt; (status, after.sink.bytes()), (0, *written));
     }
     Ok(())
 }

@@ -1,7 +1,8 @@
 -- Small runs, written out as events with the answers that they get.
 use Rattle.std.specs.Prelude.{ℕ, List, [], ◌∷◌, codes}
 use Rattle.adr_call.specs.declared.event.Event.{Event}
-use Rattle.adr_call.specs.declared.event.Event.TheVariants.{Controller, Time, Write, Report}
+use Rattle.adr_call.specs.declared.call.Call.TheVariants.{Write}
+use Rattle.adr_call.specs.declared.event.Event.TheVariants.{Controller, Time, Calls, Report}
 use Rattle.adr_call.specs.declared.answer.Answer.{Answer}
 use Rattle.adr_call.specs.declared.write.Write.TheVariants as writes
 use Rattle.adr_call.specs.declared.report.Report.TheVariants.{Directory}
@@ -13,7 +14,7 @@ use Rattle.adr_model.specs.World.{answer}
 use Rattle.adr_test_definitions.specs.Acting.{account, user}
 
 abbrev pub add_user : ℕ → List ℕ → List ℕ → Event
-add_user guid name login = Write (codes "A") (writes.Add (identifier guid) 5 root name (account login))
+add_user guid name login = Calls (codes "A") (Write (writes.Add (identifier guid) 5 root name (account login)))
 
 -- one controller, one person, and the directory
 abbrev pub first_person : List Event

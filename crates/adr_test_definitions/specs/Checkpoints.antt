@@ -30,7 +30,7 @@ log_at slot place end = record { second = slot; place = place; version = area_ve
 abbrev pub in_both : {A : Type 0} → (Bool → A) → List A
 in_both by_slot = by_slot false ∷ by_slot true ∷ []
 
--- ---- nine calls: a controller is quarantined, by a record of 31 bytes
+-- ---- nine calls: a controller is quarantined, by a record of 35 bytes
 
 -- the log before, the one of the new area, and the one with the record
 abbrev pub old_log : Bool → Log
@@ -40,7 +40,7 @@ abbrev pub new_area : Bool → Log
 new_area slot = log_at (not slot) 70000 70045
 
 abbrev pub with_record : Bool → Log
-with_record slot = log_at (not slot) 70000 70076
+with_record slot = log_at (not slot) 70000 70080
 
 -- the log that a start finds, and the one that is safe
 abbrev pub leaves : Log → Log → Option Plan → Device
@@ -141,7 +141,7 @@ with_records bytes = log_at false first_area (101 + bytes)
 abbrev pub is_due_behind : ℕ → Bool
 is_due_behind bytes = is_due (with_records bytes) (quarantine first)
 
--- a change that removes so many objects has a record of 65591 bytes, longer than the 38 of the image and 64 KiB
+-- a change that removes so many objects has a record of 65595 bytes, longer than the 38 of the image and 64 KiB
 abbrev pub long_change : Change
 long_change = record (quarantine first) { removed = map (λ n. object n 161 1) (range_with_len 0 1639) }
 
@@ -161,7 +161,7 @@ anew l = checkpointed l first.store
 abbrev pub with_log_at : Log → World
 with_log_at l = record empty_world { replicas = on_disk (codes "A") first l ∷ [] }
 
--- the new area has 45 bytes and begins where the log ended, and the object's record has 179
+-- the new area has 45 bytes and begins where the log ended, and the object's record has 183
 abbrev pub ends_at : ℕ → World
 ends_at end = with_log_at (log_at false first_area end)
 

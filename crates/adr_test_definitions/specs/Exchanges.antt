@@ -3,6 +3,7 @@ use Rattle.std.specs.Prelude.{true, false, ℕ, List, [], ◌∷◌, ◌++◌, B
 use Rattle.adr_values.specs.declared.content.Value.TheVariants.{Text}
 use Rattle.adr_values.specs.declared.mark.Mark.{Mark}
 use Rattle.adr_call.specs.declared.event.Event.{Event}
+use Rattle.adr_call.specs.declared.call.Call.TheVariants as calls
 use Rattle.adr_call.specs.declared.event.Event.TheVariants as events
 use Rattle.adr_call.specs.declared.answer.Answer.{Answer}
 use Rattle.adr_call.specs.declared.write.Write.TheVariants as writes
@@ -43,7 +44,7 @@ cut_and_cycle =
     ∷ add_container a 16 (codes "x")
     ∷ add_container a 17 (codes "y")
     ∷ events.Pull b a 1
-    ∷ events.Write a (writes.Modify (identifier 16) ((12, Text (codes "d") ∷ []) ∷ []))
+    ∷ events.Calls a (calls.Write (writes.Modify (identifier 16) ((12, Text (codes "d") ∷ []) ∷ [])))
     ∷ events.Cycle b a 1
     ∷ []
 
@@ -156,9 +157,9 @@ collection =
     ∷ events.Time 10
     ∷ add_container a 16 (codes "x")
     ∷ events.Cycle b a 10
-    ∷ events.Write a (writes.Delete (identifier 16))
+    ∷ events.Calls a (calls.Write (writes.Delete (identifier 16)))
     ∷ events.Time 100
-    ∷ events.Collect a 50
+    ∷ events.Calls a (calls.Collect 50)
     ∷ events.Ask b a 10 2 (codes "q")
     ∷ events.Serve a (codes "q") (codes "r")
     ∷ events.Backup a (codes "i")

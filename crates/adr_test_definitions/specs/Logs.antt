@@ -30,7 +30,7 @@ abbrev pub full_log : List ℕ → Answer
 full_log verb =
     answer verb (codes "A") (outcomes.Refused 22 (codes "Full") (field (codes "table") (Word (codes "Log")) ∷ field (codes "limit") (Number 8589934592) ∷ []))
 
--- a new disk's log ends at 101; a container of one letter takes 179 bytes, whose object is 140 of them. One fits to the last
+-- a new disk's log ends at 101; a container of one letter takes 183 bytes, whose object is 140 of them. One fits to the last
 -- byte, and the next isn't written
 abbrev pub last_room : List Event
 last_room = add_container (codes "A") 16 (codes "x") ∷ add_container (codes "A") 17 (codes "y") ∷ Report (codes "A") Directory ∷ []
@@ -50,8 +50,8 @@ no_room_told = full_log (codes "add") ∷ full_log (codes "add") ∷ answer (cod
 abbrev pub log_ends : World → Option (ℕ × ℕ)
 log_ends w = option_map (λ r. (r.device.read_log.log_end, r.device.safe_log.log_end)) (replica_at w (codes "A"))
 
--- a disk that is put back has the log that it had: its end is that of the snapshot, 358 bytes behind that of a new disk. A new
--- disk of that state would end at 435
+-- a disk that is put back has the log that it had: its end is that of the snapshot, 366 bytes behind that of a new disk. A new
+-- disk of that state would end at 443
 abbrev pub put_back : List Event
 put_back =
     new_a
@@ -62,7 +62,7 @@ put_back =
     ∷ Rollback (codes "A") (codes "s")
     ∷ []
 
--- a controller that was put back is asked by one who has seen more, and has no room to note that it is shut off: 31 bytes
+-- a controller that was put back is asked by one who has seen more, and has no room to note that it is shut off: 35 bytes
 abbrev pub asked_for_more : ℕ → List Answer
 asked_for_more end =
     answers (record (with_log end) { requests = (codes "q", record { version = 2; dest = identifier 176; source = identifier 160; inv = identifier 161; mark = record { obj = 1; prop = 1; seen = 1 }; schema = 1; max = 10; vector = [] }) ∷ [] })

@@ -3,7 +3,8 @@ use Rattle.std.specs.Prelude.{ℕ, List, [], ◌∷◌, codes}
 use Rattle.adr_disk.specs.declared.memory.Crash.{Crash}
 use Rattle.adr_disk.specs.declared.memory.Crash.TheVariants.{Kept, Lost}
 use Rattle.adr_call.specs.declared.event.Event.{Event}
-use Rattle.adr_call.specs.declared.event.Event.TheVariants.{Controller, Write, StopAfter, Fail, Stop, Start, Report}
+use Rattle.adr_call.specs.declared.call.Call.TheVariants.{Write}
+use Rattle.adr_call.specs.declared.event.Event.TheVariants.{Controller, Calls, StopAfter, Fail, Stop, Start, Report}
 use Rattle.adr_call.specs.declared.answer.Answer.{Answer}
 use Rattle.adr_call.specs.declared.write.Write.TheVariants as writes
 use Rattle.adr_call.specs.declared.report.Report.TheVariants.{Directory}
@@ -21,7 +22,7 @@ abbrev pub new_b : Event
 new_b = Controller (codes "B") (identifier 176) (identifier 177)
 
 abbrev pub add_container : List ℕ → ℕ → List ℕ → Event
-add_container name guid text = Write name (writes.Add (identifier guid) 4 root text [])
+add_container name guid text = Calls name (Write (writes.Add (identifier guid) 4 root text []))
 
 abbrev pub add_x : Event
 add_x = add_container (codes "A") 16 (codes "x")

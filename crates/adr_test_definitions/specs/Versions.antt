@@ -2,6 +2,7 @@
 use Rattle.std.specs.Prelude.{true, pos, ℕ, List, [], ◌∷◌, ◌++◌, codes}
 use Rattle.adr_values.specs.declared.content.Value.TheVariants.{Text, Number as Integer}
 use Rattle.adr_call.specs.declared.event.Event.{Event}
+use Rattle.adr_call.specs.declared.call.Call.TheVariants as calls
 use Rattle.adr_call.specs.declared.event.Event.TheVariants as events
 use Rattle.adr_call.specs.declared.answer.Answer.{Answer}
 use Rattle.adr_call.specs.declared.write.Write.TheVariants as writes
@@ -38,13 +39,13 @@ abbrev pub other_schema : List Event
 other_schema =
     new_a
     ∷ new_b
-    ∷ events.Write a (writes.Add (identifier 16) 8 root (codes "c") [])
-    ∷ events.Upgrade a
-    ∷ events.Write a (writes.Add (identifier 16) 8 root (codes "c") ((21, Text (codes "t") ∷ []) ∷ []))
+    ∷ events.Calls a (calls.Write (writes.Add (identifier 16) 8 root (codes "c") []))
+    ∷ events.Calls a calls.Upgrade
+    ∷ events.Calls a (calls.Write (writes.Add (identifier 16) 8 root (codes "c") ((21, Text (codes "t") ∷ []) ∷ [])))
     ∷ events.Ask b a 10 2 (codes "q")
     ∷ events.Serve a (codes "q") (codes "r")
-    ∷ events.Upgrade b
-    ∷ events.Upgrade b
+    ∷ events.Calls b calls.Upgrade
+    ∷ events.Calls b calls.Upgrade
     ∷ events.Cycle b a 10
     ∷ events.Report b reports.Directory
     ∷ []
@@ -70,13 +71,13 @@ abbrev pub revived : List Event
 revived =
     new_a
     ∷ events.Time 10
-    ∷ events.Write a (writes.Add (identifier 16) 3 root (codes "o") [])
-    ∷ events.Write a (writes.Add (identifier 17) 5 (identifier 16) (codes "u") (account (codes "u")))
-    ∷ events.Write a (writes.Add (identifier 18) 6 root (codes "g") ((19, Integer (pos 2) ∷ []) ∷ []))
-    ∷ events.Write a (writes.Link (identifier 18) 30 (identifier 17))
+    ∷ events.Calls a (calls.Write (writes.Add (identifier 16) 3 root (codes "o") []))
+    ∷ events.Calls a (calls.Write (writes.Add (identifier 17) 5 (identifier 16) (codes "u") (account (codes "u"))))
+    ∷ events.Calls a (calls.Write (writes.Add (identifier 18) 6 root (codes "g") ((19, Integer (pos 2) ∷ []) ∷ [])))
+    ∷ events.Calls a (calls.Write (writes.Link (identifier 18) 30 (identifier 17)))
     ∷ events.Backup a (codes "i")
-    ∷ events.Write a (writes.Delete (identifier 17))
-    ∷ events.Write a (writes.Delete (identifier 16))
+    ∷ events.Calls a (calls.Write (writes.Delete (identifier 17)))
+    ∷ events.Calls a (calls.Write (writes.Delete (identifier 16)))
     ∷ events.Time 20
     ∷ events.Revive a (identifier 17) (codes "i") root (codes "u")
     ∷ events.Revive a (identifier 16) (codes "i") root (codes "o")

@@ -143,12 +143,12 @@ pub fn small_exchanges()
 pub fn logs_end()
     ensures new { log_ends (after_lines empty_world (new_a ∷ [])) ≡ Some (101, 101) }
     ensures grown { log_ends (after_lines empty_world (new_a ∷ add_container (codes "A") 16 (codes "x") ∷ []))
-        ≡ Some (280, 280) }
-    ensures last { answers (with_log 8589934413) last_room ≡ last_room_told }
-    ensures none { answers (with_log 8589934414) last_room ≡ no_room_told }
-    ensures put_back { log_ends (after_lines empty_world log_put_back) ≡ Some (459, 459) }
-    ensures shut_off { asked_for_more 8589934561 ≡ shut_off }
-    ensures unnoted { asked_for_more 8589934562 ≡ full_log (codes "serve") ∷ [] }
+        ≡ Some (284, 284) }
+    ensures last { answers (with_log 8589934409) last_room ≡ last_room_told }
+    ensures none { answers (with_log 8589934410) last_room ≡ no_room_told }
+    ensures put_back { log_ends (after_lines empty_world log_put_back) ≡ Some (467, 467) }
+    ensures shut_off { asked_for_more 8589934557 ≡ shut_off }
+    ensures unnoted { asked_for_more 8589934558 ≡ full_log (codes "serve") ∷ [] }
 {}
 
 /// The nine calls of a commit that is due, under plans, with the live area in the first slot and in the second
@@ -167,9 +167,9 @@ pub fn nine_calls_under_plans()
 /// of an earlier version. The new area stands before the live one where there is room to the byte, else behind.
 #[tactic(none)]
 pub fn checkpoints_come()
-    ensures due { map is_due_behind (65543 ∷ 65544 ∷ []) ≡ false ∷ true ∷ [] }
-    ensures no_record { map is_long_due_behind (0 ∷ 31 ∷ []) ≡ false ∷ true ∷ [] }
-    ensures version { map is_due_at (1 ∷ 0 ∷ []) ≡ false ∷ true ∷ [] }
+    ensures due { map is_due_behind (65539 ∷ 65540 ∷ []) ≡ false ∷ true ∷ [] }
+    ensures no_record { map is_long_due_behind (0 ∷ 35 ∷ []) ≡ false ∷ true ∷ [] }
+    ensures version { map is_due_at (2 ∷ 1 ∷ []) ≡ false ∷ true ∷ [] }
     ensures room { anew (log_at false 101 70000) ≡ log_at true 56 101 }
     ensures no_room { anew (log_at false 100 70000) ≡ log_at true 70000 70045 }
     ensures back { anew (log_at true 70000 140000) ≡ log_at false 56 101 }
@@ -179,12 +179,12 @@ pub fn checkpoints_come()
 /// begun anew where there is room before it, and where the disk stops the object is there or it isn't.
 #[tactic(none)]
 pub fn checkpointed_lines()
-    ensures last { answers (ends_at 8589934368) (add_x ∷ []) ≡ added }
-    ensures last_end { log_ends (after_lines (ends_at 8589934368) (add_x ∷ [])) ≡ Some (8589934592, 8589934592) }
-    ensures no_room { answers (ends_at 8589934369) (add_x ∷ []) ≡ not_added }
-    ensures stays { log_ends (after_lines (ends_at 8589934369) (add_x ∷ [])) ≡ Some (8589934369, 8589934369) }
+    ensures last { answers (ends_at 8589934364) (add_x ∷ []) ≡ added }
+    ensures last_end { log_ends (after_lines (ends_at 8589934364) (add_x ∷ [])) ≡ Some (8589934592, 8589934592) }
+    ensures no_room { answers (ends_at 8589934365) (add_x ∷ []) ≡ not_added }
+    ensures stays { log_ends (after_lines (ends_at 8589934365) (add_x ∷ [])) ≡ Some (8589934365, 8589934365) }
     ensures full { answers full_of_records (add_x ∷ []) ≡ added }
-    ensures begun_anew { log_ends (after_lines full_of_records (add_x ∷ [])) ≡ Some (280, 280) }
+    ensures begun_anew { log_ends (after_lines full_of_records (add_x ∷ [])) ≡ Some (284, 284) }
     ensures torn { answers (ends_at 70000) (stopped_due_add 3 Torn) ≡ stopped_due_add_told [] }
     ensures lost { answers (ends_at 70000) (stopped_due_add 7 Lost) ≡ stopped_due_add_told [] }
     ensures kept { answers (ends_at 70000) (stopped_due_add 7 Kept) ≡ stopped_due_add_told one_object }

@@ -7,7 +7,7 @@ use crate::logs::{
 };
 use adr_checks::Schema;
 use adr_disk::Crash;
-use adr_state::{Change, LOG_LIMIT, Log, Mode, Vector};
+use adr_state::{Change, LOG_LIMIT, Log, Mode, Times, Vector};
 use std::alloc::Global;
 use std::test::Fail;
 
@@ -35,34 +35,72 @@ const NEW: [&[u8]; 20] = [
     &[0xC3],
     b"ADJL", &[0, 2], A0, A1,
     &[0], LONG_56, LONG_56,
-    &[0, 1], &[0, 0, 0, 0x26],
-    b"ADIM", &[0, 1], ONE, LONG_0, NONE, NONE, NONE, NONE, NONE,
+    &[0, 2], &[0, 0, 0, 0x26],
+    b"ADIM", &[0, 2], ONE, LONG_0, NONE, NONE, NONE, NONE, NONE,
     &[0],
 ];
 
-/// The record of the added container, and the gate behind it: 179 bytes.
+/// What the record of the added container begins with: its length, the USN, no quarantine, the schema, no mark, nothing
+/// joined, collected or removed, and a count of writes.
 #[rattlefmt::skip]
-const RECORD: [&[u8]; 28] = [
-    &[0, 0, 0, 0xae],
-    LONG_1, &[0, 0], NONE, NONE, NONE, ONE,
+const FRONT: [&[u8]; 9] = [
+    &[0, 0, 0, 0xb2],
+    LONG_1, &[0], ONE, &[0], NONE, NONE, NONE, ONE,
+];
+
+/// The written object, and the gate behind the record: the record has 183 bytes.
+#[rattlefmt::skip]
+const OBJECT: [&[u8]; 20] = [
     LONG_1, &[1], GUID, A1, LONG_1, &[0, 2],
     &[0, 1], ONE, LONG_0, A1, LONG_1, &[0, 4],
     &[0, 2], ONE, LONG_0, A1, LONG_1, ROOT, &[0, 1], b"x",
-    &[0],
 ];
+
+/// The place of an area's version, and of that of its image.
+const VERSIONS: [usize; 2] = [57, 67];
+
+/// In version 1 a record tells no schema, and has 179 bytes.
+const FRONT_OF_1: [&[u8]; 7] = [&[0, 0, 0, 0xae], LONG_1, &[0, 0], NONE, NONE, NONE, ONE];
 
 /// Where the gate behind the area's image stands, and where the last gate does.
 const GATE: usize = 100;
 
-const LAST_GATE: usize = 279;
+const LAST_GATE: usize = 283;
 
 /// The log with the container, whose gate behind the image is this.
 fn log_with(alloc: Global, gate: u8) -> Result<Vec<u8>, Fail> {
-    let mut bytes = NEW.concat(alloc)?;
+    with_record(alloc, NEW.concat(alloc)?, gate, &FRONT.concat(alloc)?)
+}
+
+/// A log without records, and then one that begins so, behind this gate.
+fn with_record(alloc: Global, mut bytes: Vec<u8>, gate: u8, front: &[u8]) -> Result<Vec<u8>, Fail> {
     bytes.pop();
     bytes.push(gate)?;
-    bytes.extend_from_slice(&RECORD.concat(alloc)?)?;
+    bytes.extend_from_slice(front)?;
+    bytes.extend_from_slice(&OBJECT.concat(alloc)?)?;
+    bytes.push(0)?;
     Ok(bytes)
+}
+
+/// The log that an earlier build made: a new one.
+fn new_log_of_1(alloc: Global) -> Result<Vec<u8>, Fail> {
+    let mut bytes = NEW.concat(alloc)?;
+    for place in VERSIONS {
+        if let Some(version) = bytes.get_mut(place) {
+            *version = 1;
+        }
+    }
+    Ok(bytes)
+}
+
+/// And one with the container: 280 bytes.
+fn log_of_1(alloc: Global) -> Result<Vec<u8>, Fail> {
+    with_record(
+        alloc,
+        new_log_of_1(alloc)?,
+        0xC3,
+        &FRONT_OF_1.concat(alloc)?,
+    )
 }
 
 #[test]
@@ -93,21 +131,21 @@ fn place_in_log(bytes: &[u8]) -> u64 {
 
 /// What a disk is filled with, where the selected area then stands, and how long the file has become.
 ///
-/// The record of the container has 179 bytes, and that of a description 2,193. The image of the described container has
-/// 2,336. So a checkpoint comes with the 30th description, and then with each 30th of a new area's. An image of described
-/// containers has 62 bytes, and 2,276 for each; the record of one has 2,292. That of 28 fits in front of no area, and that
+/// The record of the container has 183 bytes, and that of a description 2,197. The image of the described container has
+/// 2,344. So a checkpoint comes with the 30th description, and then with each 30th of a new area's. An image of described
+/// containers has 70 bytes, and 2,276 for each; the record of one has 2,296. That of 28 fits in front of no area, and that
 /// of 84 not in front of theirs.
 const AREAS: &[(Filling, u64, usize)] = &[
-    (Filling::Descriptions(29), 56, 63_877),
-    (Filling::Descriptions(30), 63_877, 68_413),
-    (Filling::Descriptions(59), 63_877, 132_010),
-    (Filling::Descriptions(60), 56, 132_010),
-    (Filling::Descriptions(89), 56, 132_010),
-    (Filling::Descriptions(90), 68_189, 132_010),
-    (Filling::Containers(28), 56, 64_277),
-    (Filling::Containers(29), 64_277, 130_366),
-    (Filling::Containers(84), 64_277, 256_426),
-    (Filling::Containers(85), 256_426, 449_971),
+    (Filling::Descriptions(29), 56, 63_997),
+    (Filling::Descriptions(30), 63_997, 68_545),
+    (Filling::Descriptions(59), 63_997, 132_258),
+    (Filling::Descriptions(60), 56, 132_258),
+    (Filling::Descriptions(89), 56, 132_258),
+    (Filling::Descriptions(90), 68_317, 132_258),
+    (Filling::Containers(28), 56, 64_389),
+    (Filling::Containers(29), 64_389, 130_490),
+    (Filling::Containers(84), 64_389, 256_770),
+    (Filling::Containers(85), 256_770, 450_327),
 ];
 
 /// The USN behind it.
@@ -201,14 +239,14 @@ const TO_SECOND: Due = Due {
     filling: Filling::Descriptions(29),
     usn: 30,
     live: 56,
-    next: 63_877,
+    next: 63_997,
 };
 
 /// It gets the first one.
 const TO_FIRST: Due = Due {
     filling: Filling::Descriptions(59),
     usn: 60,
-    live: 63_877,
+    live: 63_997,
     next: 56,
 };
 
@@ -289,6 +327,48 @@ fn a_checkpoint_to_the_first_slot_leaves_the_state_before_or_after(
     Ok(())
 }
 
+/// The log of an earlier build whose first commit here comes with a checkpoint, to the second slot.
+const MIGRATED: Due = Due {
+    filling: Filling::Descriptions(0),
+    usn: 1,
+    live: 56,
+    next: 280,
+};
+
+#[test]
+fn the_first_commit_to_a_log_of_version_1_leaves_the_state_before_or_after(
+    rt: HostRuntime,
+) -> Result<(), Fail> {
+    let alloc = rt.alloc();
+    let bytes = log_of_1(alloc)?;
+    assert_eq!(rt; bytes.len(), 280);
+    for (mishap, how, second, _) in COMMITS {
+        let left = left_of_each(alloc, MIGRATED, bytes.as_slice(), *mishap, *how)?;
+        assert_eq!(rt; left.as_str(), *second);
+    }
+    Ok(())
+}
+
+/// A commit that nothing meets.
+const UNMET: Met = Met {
+    calls: 9,
+    mishap: None,
+};
+
+#[test]
+fn the_first_commit_to_a_log_of_version_1_writes_an_area_of_version_2(
+    rt: HostRuntime,
+) -> Result<(), Fail> {
+    let alloc = rt.alloc();
+    let left = describe_log(alloc, log_of_1(alloc)?, UNMET, None, Crash::Kept)?.ok_or("no start")?;
+    assert_eq!(rt; place_in_log(left.bytes.as_slice()), 280);
+    assert_eq!(rt;
+        (left.bytes.get(280), left.bytes.get(281)),
+        (Some(&0), Some(&2))
+    );
+    Ok(())
+}
+
 /// What a start leaves of a selector that a failed sync left unsynced, where its own sync meets this, or passes, and a
 /// crash follows.
 const STARTS: &[(u32, Mishap, Crash, char, char)] = &[
@@ -351,7 +431,7 @@ fn cut_place(len: usize) -> u64 {
     if len < GATE {
         return place_in(FIELDS, len);
     }
-    if len < LAST_GATE { 100 } else { 279 }
+    if len < LAST_GATE { 100 } else { 283 }
 }
 
 /// What a start finds in the front of a log.
@@ -368,13 +448,26 @@ fn a_log_that_is_cut_is_refused_or_has_a_state(rt: HostRuntime) -> Result<(), Fa
     let alloc = rt.alloc();
     let open = log_with(alloc, 0xC3)?;
     let closed = log_with(alloc, 0)?;
-    for len in 0..280 {
+    for len in 0..284 {
         let cut = Finding::Damage(cut_place(len));
         assert_eq!(rt; start_of_front(alloc, &open, len)?, cut);
         let behind = if len <= GATE { cut } else { Finding::Usn(0) };
         assert_eq!(rt; start_of_front(alloc, &closed, len)?, behind);
     }
-    assert_eq!(rt; start_of_front(alloc, &open, 280)?, Finding::Usn(1));
+    assert_eq!(rt; start_of_front(alloc, &open, 284)?, Finding::Usn(1));
+    Ok(())
+}
+
+#[test]
+fn a_log_of_version_1_that_is_cut_is_refused_or_has_a_state(rt: HostRuntime) -> Result<(), Fail> {
+    let alloc = rt.alloc();
+    let log = log_of_1(alloc)?;
+    for len in 0..280 {
+        let place = if len < 279 { cut_place(len) } else { 279 };
+        assert_eq!(rt; start_of_front(alloc, &log, len)?, Finding::Damage(place));
+    }
+    assert_eq!(rt; start_of_front(alloc, &log, 280)?, Finding::Usn(1));
+    assert_eq!(rt; start_of(alloc, new_log_of_1(alloc)?), Finding::Usn(0));
     Ok(())
 }
 
@@ -419,18 +512,20 @@ fn a_log_in_memory_alone_is_started_again(rt: HostRuntime) -> Result<(), Fail> {
     Ok(())
 }
 
-/// A quarantine under schema 1. Its record is a length, a body of 26 bytes and a gate.
+/// A quarantine under schema 1. Its record is a length, a body of 30 bytes and a gate.
 fn quarantine(alloc: Global) -> Option<Change> {
     let schema = Schema::new(1)?;
-    let (joined, purged) = (Vector::new(alloc), Vector::new(alloc));
+    let (joined, times, purged) = (Vector::new(alloc), Times::new(alloc), Vector::new(alloc));
     let (removed, writes) = (Vec::new(alloc), Vec::new(alloc));
     let mode = Mode::Quarantined;
-    Some(Change::new(5, mode, schema, None, joined, purged, removed, writes))
+    Some(Change::new(
+        5, mode, schema, None, joined, times, purged, removed, writes,
+    ))
 }
 
 /// Where a log ends behind that record which ended here.
 fn end_after(alloc: Global, end: u64) -> Option<u64> {
-    let log = Log::found(false, 56, 1, 100, end).after(&quarantine(alloc)?)?;
+    let log = Log::found(false, 56, 2, 100, end).after(&quarantine(alloc)?)?;
     Some(log.end())
 }
 
@@ -438,7 +533,7 @@ fn end_after(alloc: Global, end: u64) -> Option<u64> {
 fn a_log_ends_at_its_limit_at_the_most(rt: HostRuntime) {
     let alloc = rt.alloc();
     assert_eq!(rt; LOG_LIMIT, 0x2_0000_0000);
-    assert_eq!(rt; end_after(alloc, LOG_LIMIT - 32), Some(LOG_LIMIT - 1));
-    assert_eq!(rt; end_after(alloc, LOG_LIMIT - 31), Some(LOG_LIMIT));
-    assert_eq!(rt; end_after(alloc, LOG_LIMIT - 30), None);
+    assert_eq!(rt; end_after(alloc, LOG_LIMIT - 36), Some(LOG_LIMIT - 1));
+    assert_eq!(rt; end_after(alloc, LOG_LIMIT - 35), Some(LOG_LIMIT));
+    assert_eq!(rt; end_after(alloc, LOG_LIMIT - 34), None);
 }

@@ -2,7 +2,7 @@
 
 use adr_checks::Schema;
 use adr_state::{Change, Item, Key, Mode, NoMemory, Said, State, Update, Written};
-use adr_values::{Birth, Content, Guid, LinkStamp, Oid, Stamp, Text, Unit, Vector};
+use adr_values::{Birth, Content, Guid, LinkStamp, Oid, Stamp, Text, Times, Unit, Vector};
 use std::alloc::Global;
 use std::process::Abort;
 
@@ -76,6 +76,7 @@ pub fn change(
         schema,
         None,
         seen,
+        Times::new(alloc),
         Vector::new(alloc),
         Vec::new(alloc),
         writes,

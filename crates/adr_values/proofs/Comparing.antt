@@ -3,7 +3,7 @@ use Rattle.std.proofs.Common.{◌≡◌, ℕ, ◌≤◌, ◌<◌, Bool, true, fa
 use Rattle.std.specs.Prelude.{find, not, option_map, is_some}
 use Rattle.std.specs.Ordering.{is_eq}
 use Rattle.std.specs.declared.cmp.Ordering.TheVariants.{Less}
-use Rattle.std.proofs.lemmas.Bool.{leb-true, leb-false, le-leb}
+use Rattle.std.proofs.lemmas.Bool.{leb-true, leb-false, le-leb, lt-leb}
 use Rattle.adr_values.specs.Order.{identifier_order}
 use Rattle.adr_values.specs.Vector.{Cursors, at, covers, at_most, first_gap}
 use Rattle.adr_values.proofs.Cursors.{IsRising, IsBelow, at_head, at_rest, at_below, below_all, same_from_test, head_below, tail_rising}
@@ -47,6 +47,14 @@ gap-is-not_at_most (c ∷ cs) w = by (covers w c.0 c.1) (gap-is-not_at_most cs w
     by : (b : Bool) → is_some (first_gap cs w) ≡ not (at_most cs w) → is_some (gap (cond (not b) (Some c) (find (λ c. not (covers w c.0 c.1)) cs))) ≡ not (b && at_most cs w)
     by true h = h
     by false h = refl
+
+-- where the first of these cursors is above, that is the gap; where it isn't, the gap is behind it
+module _ (c : List ℕ × ℕ) (cs w : Cursors) where
+  pub gap_first : at w c.0 < c.1 → first_gap (c ∷ cs) w ≡ Some (c.0, at w c.0, c.1)
+  gap_first above = rw (lt-leb c.1 (at w c.0) above) refl
+
+  pub gap_behind : c.1 ≤ at w c.0 → first_gap (c ∷ cs) w ≡ first_gap cs w
+  gap_behind within = rw (le-leb c.1 (at w c.0) within) refl
 
 pub none_from_at_most : (b : Bool) → not b ≡ false → b ≡ true
 none_from_at_most true h = refl

@@ -7,7 +7,7 @@ use Rattle.std.specs.declared.cmp.Ordering.TheVariants.{Less, Equal, Greater}
 use Rattle.std.proofs.lemmas.Bool.{leb-true, leb-false}
 use Rattle.std.proofs.lemmas.Map.Lookups.{exact_bytes}
 use Rattle.adr_values.specs.Order.{identifier_order}
-use Rattle.adr_values.specs.Vector.{Cursors, at, covers, raised, joined}
+use Rattle.adr_values.specs.Vector.{Cursors, IsVector, at, covers, raised, joined}
 use Rattle.adr_values.specs.Merging.{merged_with, merged}
 use Rattle.adr_values.proofs.Cursors.{IsRising, FromOne, IsBelow, turned, below_all, at_rest, same_from_test, test_itself, head_below, tail_rising, cons_rising, at-insert_entry, rising-insert_entry, from_one-insert_entry, same_cursors}
 
@@ -181,3 +181,11 @@ module _ (c : List ℕ × ℕ) (cs : Cursors) (rest : (ds : Cursors) → length 
 pub length-merged : (cs ds : Cursors) → length (merged cs ds) ≤ length cs + length ds
 length-merged [] ds = omega arith
 length-merged (c ∷ cs) ds = omega (arith, length-merged_with c cs (λ es. length-merged cs es) ds)
+
+-- ---- of vectors
+
+pub merged_vectors : (v w : Cursors) → IsVector v → IsVector w → merged v w ≡ joined v w
+merged_vectors v w p q = merged-is-joined v w p.rising q.rising p.from_one q.from_one
+
+pub length-joined : (v w : Cursors) → IsVector v → IsVector w → length (joined v w) ≤ length v + length w
+length-joined v w p q = subst (λ (u : Cursors). length u ≤ length v + length w) (merged_vectors v w p q) (length-merged v w)

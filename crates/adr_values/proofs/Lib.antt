@@ -1,6 +1,7 @@
 pub mod Apart
 pub mod Comparing
 pub mod Cursors
+pub mod Dated
 pub mod Exact
 pub mod ExactCalls
 pub mod ExactOrders
@@ -18,3 +19,4 @@ pub mod Placing
 pub mod Refusals
 pub mod Tables
 pub mod Units
+pub mod Walks

@@ -1,16 +1,17 @@
 -- Times beside a vector stay so when they are joined, raised or filtered, and when the vector grows.
-use Rattle.std.proofs.Common.{◌≡◌, ℕ, ◌≤◌, Bool, true, false, cond, List, [], ◌∷◌, refl, filter, arith}
+use Rattle.std.proofs.Common.{◌≡◌, ℕ, ◌≤◌, Bool, true, false, cond, List, [], ◌∷◌, refl, sym, subst, ◌∙◌, filter, not, arith}
 use Rattle.std.specs.List.{AllByRecursion}
-use Rattle.std.specs.Ordering.{match_ordering}
+use Rattle.std.specs.Ordering.{is_eq, match_ordering}
 use Rattle.std.specs.BTreeMap.{insert_entry}
 use Rattle.std.specs.declared.cmp.Ordering.{Ordering}
 use Rattle.std.specs.declared.cmp.Ordering.TheVariants.{Less, Equal, Greater}
 use Rattle.std.proofs.lemmas.Bool.{leb-false}
 use Rattle.adr_values.specs.Order.{identifier_order}
 use Rattle.adr_values.specs.Vector.{Cursors, at, covers, raised, joined}
-use Rattle.adr_values.specs.Times.{AreTimesOf}
-use Rattle.adr_values.proofs.Cursors.{IsRising, IsBelow, head_below, tail_rising, cons_rising, nil_rising}
+use Rattle.adr_values.specs.Times.{AreMoments, AreTimesOf, others, told_at_now}
+use Rattle.adr_values.proofs.Cursors.{IsRising, IsBelow, head_below, tail_rising, cons_rising, nil_rising, same_from_test, test_itself, same_cursors, at-insert_entry, rising-insert_entry, from_one-insert_entry}
 use Rattle.adr_values.proofs.Joining.{rising-raised, from_one-raised, rising-joined, from_one-joined}
+use Rattle.adr_values.proofs.Placing.{raised_new}
 
 -- what holds of the identifiers of before, and of those that come
 module _ (P : List ℕ → Type 0) where
@@ -79,8 +80,51 @@ module _ (test : List ℕ × ℕ → Bool) where
   filter_rising : (cs : Cursors) → IsRising cs → IsRising (filter test cs)
   filter_rising = filtered IsRising tail_rising (λ c cs s kept. cons_rising c (filter test cs) (filter_below c.0 cs (head_below c cs s)) kept)
 
+  pub moments_filter : (t : Cursors) → AreMoments t → AreMoments (filter test t)
+  moments_filter t are = record { rising = filter_rising t are.rising; from_one = filter_each (λ c. 1 ≤ c.1) t are.from_one }
+
   pub times_filter : (v t : Cursors) → AreTimesOf v t → AreTimesOf v (filter test t)
   times_filter v t are = record {
-    moments = record { rising = filter_rising t are.moments.rising; from_one = filter_each (λ c. 1 ≤ c.1) t are.moments.from_one };
+    moments = moments_filter t are.moments;
     seen = filter_each (λ c. 1 ≤ at v c.0) t are.seen;
   }
+
+-- ---- a moment in place of another
+
+at_others : (t : Cursors) (inv q : List ℕ) → at (others t inv) q ≡ cond (is_eq (identifier_order q inv)) 0 (at t q)
+at_others [] inv q = none (is_eq (identifier_order q inv))
+  where
+    none : (b : Bool) → ◌≡◌ {A = ℕ} 0 (cond b 0 0)
+    none true = refl
+    none false = refl
+at_others (c ∷ cs) inv q = by (is_eq (identifier_order c.0 inv)) refl (is_eq (identifier_order q c.0)) refl (at_others cs inv q)
+  where
+    by : (a : Bool) → is_eq (identifier_order c.0 inv) ≡ a → (b : Bool) → is_eq (identifier_order q c.0) ≡ b → at (others cs inv) q ≡ cond (is_eq (identifier_order q inv)) 0 (at cs q)
+        → at (cond (not a) (c ∷ others cs inv) (others cs inv)) q ≡ cond (is_eq (identifier_order q inv)) 0 (cond b c.1 (at cs q))
+    by true e true f k =
+        let same : q ≡ inv = same_from_test q c.0 f ∙ same_from_test c.0 inv e in
+        let eq : is_eq (identifier_order q inv) ≡ true = subst (λ (x : List ℕ). is_eq (identifier_order x inv) ≡ true) (sym same) (test_itself inv) in
+        k ∙ rw eq refl
+    by true e false f k = k
+    by false e true f k =
+        let other : is_eq (identifier_order q inv) ≡ false = subst (λ (x : List ℕ). is_eq (identifier_order x inv) ≡ false) (sym (same_from_test q c.0 f)) e in
+        rw (f, other) refl
+    by false e false f k = rw f k
+
+-- a moment that is told takes its place as an entry of a map does
+pub told_entered : (t : Cursors) (inv : List ℕ) (now : ℕ) → AreMoments t → 1 ≤ now → insert_entry identifier_order t inv now ≡ told_at_now t inv now
+told_entered t inv now are one =
+    let rest = moments_filter (λ (c : List ℕ × ℕ). not (is_eq (identifier_order c.0 inv))) t are in
+    let gone : at (others t inv) inv ≡ 0 = at_others t inv inv ∙ rw (test_itself inv) refl in
+    same_cursors (insert_entry identifier_order t inv now) (insert_entry identifier_order (others t inv) inv now)
+    (rising-insert_entry t inv now are.rising) (rising-insert_entry (others t inv) inv now rest.rising)
+    (from_one-insert_entry t inv now one are.from_one) (from_one-insert_entry (others t inv) inv now one rest.from_one)
+    (λ q. at-insert_entry t inv now q ∙ by q (is_eq (identifier_order q inv)) refl ∙ sym (at-insert_entry (others t inv) inv now q))
+    ∙ raised_new (others t inv) inv now (omega (arith, gone, one))
+  where
+    by : (q : List ℕ) (b : Bool) → is_eq (identifier_order q inv) ≡ b → cond b now (at t q) ≡ cond b now (at (others t inv) q)
+    by q true e = refl
+    by q false e = sym (at_others t inv q ∙ rw e refl)
+
+pub moments_entered : (t : Cursors) (inv : List ℕ) (now : ℕ) → AreMoments t → 1 ≤ now → AreMoments (insert_entry identifier_order t inv now)
+moments_entered t inv now are one = record { rising = rising-insert_entry t inv now are.rising; from_one = from_one-insert_entry t inv now one are.from_one }

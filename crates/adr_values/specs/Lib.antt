@@ -1,5 +1,6 @@
 pub mod Allowed
 pub mod Assignments
+pub mod Dated
 pub mod Extends
 pub mod First
 pub mod Folding

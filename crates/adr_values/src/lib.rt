@@ -18,11 +18,13 @@ mod laws;
 mod mark;
 mod merging;
 mod refusal;
+mod searching;
 mod stamp;
 mod table;
 mod text;
 mod times;
 mod vector;
+mod walking;
 
 pub use assignments::{Assignments, Repeated};
 pub use content::{Content, Value, Values};
@@ -40,3 +42,4 @@ pub use table::{Kind, Syntax};
 pub use text::{Octets, Text};
 pub use times::Times;
 pub use vector::{CURSOR_LIMIT, Full, Vector, seen_by_both, vectors_are_their_numbers};
+pub use walking::Walk;

@@ -1,6 +1,6 @@
 //! Up-to-dateness vectors.
 
-ghost use Rattle.std.specs.Prelude.{◌≡◌, ◌≢◌, ◌<◌, ◌≤◌, ◌↔◌, ℕ, List, [], length, max, nat_lt, IsTrue, IsNone, IfOk, IfErr, IfSome, OnOk, OnErr, IsErrOf, true};
+ghost use Rattle.std.specs.Prelude.{◌≡◌, ◌≢◌, ◌<◌, ◌≤◌, ◌↔◌, ◌+◌, ℕ, List, [], length, max, nat_lt, IsTrue, IsNone, IfOk, IfErr, IfSome, OnOk, OnErr, IsErrOf, true};
 ghost use Rattle.std.specs.declared.cmp.Ordering.TheVariants.{Less};
 ghost use Rattle.adr_values.specs.Order.{identifier_order};
 ghost use Rattle.adr_values.specs.Vector.{Cursors, IsVector, at, covers, at_most, first_gap, raised, joined, cursor_limit};
@@ -11,6 +11,8 @@ ghost use Rattle.adr_values.specs.Refusal.{full};
 use crate::failure::{Failure, NoMemory};
 use crate::guid::Guid;
 use crate::merging::{count, merge};
+use crate::searching::search;
+use crate::walking::Walk;
 use std::alloc::Global;
 use std::marker::Model;
 use thiserror::Error;
@@ -138,6 +140,14 @@ impl Vector {
         true
     }
 
+    /// How many cursors there are of this one and the other as one.
+    pub fn len_joined(&self, other: &Vector) -> usize
+        ensures both { result ≡ length (joined self.now other.now) }
+        ensures few { result ≤ cursor_limit + cursor_limit }
+    {
+        count(&self.cursors, &other.cursors)
+    }
+
     /// What this one or the other has seen, as a vector of its own.
     pub fn joined(&self, alloc: Global, other: &Vector) -> Result<Vector, Failure<Full>>
         ensures ok { IfOk result (λ both. both ≡ joined self.now other.now) }
@@ -145,7 +155,7 @@ impl Vector {
             → at both inv ≡ max (at self.now inv) (at other.now inv)) }
         ensures full { IsErrOf result full ↔ (cursor_limit < length (joined self.now other.now)) }
     {
-        if count(&self.cursors, &other.cursors) as u64 > CURSOR_LIMIT {
+        if self.is_full_with(other) {
             return Err(Failure::Refused(Full));
         }
         let cursors = merge(alloc, &self.cursors, &other.cursors)?;
@@ -206,16 +216,26 @@ impl Vector {
         ensures gap { IfErr result (IsGapFor self.now inv) }
         ensures vector { IsVector self.now }
     {
-        self.cursors.binary_search_by_key(&inv, |cursor| cursor.0)
+        search(&self.cursors, inv)
+    }
+
+    /// Whether there would be too many cursors of this one and the other as one.
+    fn is_full_with(&self, other: &Vector) -> bool
+        ensures { result ≡ nat_lt cursor_limit (length (joined self.now other.now)) }
+    {
+        let most = self.cursors.len() + other.cursors.len();
+        most as u64 > CURSOR_LIMIT && self.len_joined(other) as u64 > CURSOR_LIMIT
     }
 
     fn search_gap(&self, other: &Vector) -> Option<(Guid, u64, u64)>
         ensures gap { result ≡ first_gap self.now other.now }
         ensures vector { IsVector self.now }
     {
+        let mut walk = Walk::new(&other.cursors);
         for (inv, usn) in &self.cursors {
-            if !other.covers(*inv, *usn) {
-                return Some((*inv, other.at(*inv), *usn));
+            let theirs = walk.at(*inv);
+            if theirs < *usn {
+                return Some((*inv, theirs, *usn));
             }
         }
         None

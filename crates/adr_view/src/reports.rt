@@ -10,7 +10,7 @@ ghost use Rattle.adr_view.specs.Report.{report_of};
 use crate::NoMemory;
 use crate::entries::directory;
 use crate::meta::meta;
-use adr_call::{Outcome, PartnerMarks, Report, Times};
+use adr_call::{Outcome, PartnerMarks, Report};
 use adr_state::{Marks, State};
 use std::alloc::Global;
 
@@ -33,13 +33,10 @@ pub fn report(alloc: Global, what: Report, state: &State) -> Result<Outcome, NoM
 {
     match what {
         Report::Directory => Ok(Outcome::Show(directory(alloc, state.rows())?)),
-        Report::Vector => {
-            state.knows_no_times();
-            Ok(Outcome::Vector {
-                vector: state.vector().copy(alloc)?,
-                times: Times::new(alloc),
-            })
-        }
+        Report::Vector => Ok(Outcome::Vector {
+            vector: state.vector().copy(alloc)?,
+            times: state.times().copy(alloc)?,
+        }),
         Report::Marks => Ok(Outcome::Marks(partner_marks(alloc, state.marks())?)),
         Report::Meta { guid } => Ok(Outcome::Meta(meta(alloc, state.rows(), guid)?)),
     }

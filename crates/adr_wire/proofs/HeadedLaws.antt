@@ -1,5 +1,5 @@
 -- A message of a version that is known is spelled in one way, if what stands behind the version is.
-use Rattle.std.proofs.Common.{◌≡◌, ℕ, ◌+◌, Bool, true, false, cond, eqb, List, [], ◌++◌, length, Option, Some, None, Result, Ok, Err, refl, sym, ap, subst, ◌∙◌, append-nil, arith}
+use Rattle.std.proofs.Common.{◌≡◌, ℕ, ◌+◌, Bool, true, false, cond, eqb, ◌||◌, List, [], ◌++◌, length, Option, Some, None, Result, Ok, Err, refl, sym, ap, subst, ◌∙◌, append-nil, arith}
 use Rattle.std.proofs.lemmas.Bool.{eqb-true}
 use Rattle.std.proofs.lemmas.List.{nil_from_length}
 use Rattle.adr_values.specs.declared.failure.Failure.{Failure}
@@ -13,7 +13,7 @@ use Rattle.adr_wire.specs.Reading.{Names, Rest, Read, Reading, then_at}
 use Rattle.adr_wire.specs.Spelling.{AreBytes, behind, IsSpelling}
 use Rattle.adr_wire.proofs.Combining.{from, rest_bytes, made, pair, as_they_are}
 use Rattle.adr_wire.proofs.FieldLaws.{format_version_spelled, magic_spelled, u16_spelled}
-use Rattle.adr_wire.specs.Headed.{Forms, IsHeadRefused, IsRefusedSo, as_decoding, first_form, head_at, head, headed_at, ended, of_form, versioned, read_message}
+use Rattle.adr_wire.specs.Headed.{Forms, IsHeadRefused, IsRefusedSo, as_decoding, first_form, is_version, two_forms, head_at, head, headed_at, ended, of_form, versioned, read_message}
 
 abbrev said : {X : Type 0} → X → Result X DecodeRefusal
 said x = Ok x
@@ -114,23 +114,63 @@ module _ {X : Type 0} (magic : List ℕ) (four : length magic ≡ 4) (P : X → 
       let m = message_only magic four (first_form a) (λ _. P) (λ _. s) laws_of bytes x fits e in
       (m.3, m.4 ∙ ap (λ (v : ℕ). head magic v ++ s x) (known_first a m.1 m.0 m.2).0)
 
+-- ---- two versions
+
+small : (version : ℕ) → is_version version ≡ true → IsU16 version
+small version known = by (eqb version 1) refl (eqb version 2) refl known
+  where
+    by : (a : Bool) → eqb version 1 ≡ a → (b : Bool) → eqb version 2 ≡ b → (a || b) ≡ true → IsU16 version
+    by true one b two h = let e = eqb-true version 1 one in omega (arith, e)
+    by false one true two h = let e = eqb-true version 2 two in omega (arith, e)
+    by false one false two h = absurd (cc)
+
+known_form : {X : Type 0} (a : ℕ → Reading X) (version : ℕ) (b : Reading X) → two_forms a version ≡ Some b → (is_version version ≡ true) × (a version ≡ b)
+known_form {X} a version b e = by (is_version version) refl e
+  where
+    by : (t : Bool) → is_version version ≡ t → cond t (Some (a version)) None ≡ Some b → (is_version version ≡ true) × (a version ≡ b)
+    by true is h = (is, cc)
+    by false is h = absurd (cc)
+
+form_known : {X : Type 0} (a : ℕ → Reading X) (version : ℕ) → is_version version ≡ true → two_forms a version ≡ Some (a version)
+form_known a version known = rw known refl
+
+module _ {X : Type 0} (magic : List ℕ) (four : length magic ≡ 4) (P : ℕ → X → Type 0) (s : ℕ → X → List ℕ) (a : ℕ → Reading X) (law : (v : ℕ) → IsSpelling (P v) (s v) (a v)) where
+  either : (v : ℕ) (b : Reading X) → two_forms a v ≡ Some b → IsU16 v × IsSpelling (P v) (s v) b
+  either v b e = let k = known_form a v b e in (small v k.0, subst (λ (r : Reading X). IsSpelling (P v) (s v) r) k.1 (law v))
+
+  pub again_of_two : (v : ℕ) → is_version v ≡ true → (x : X) → P v x → read_message magic (two_forms a) (head magic v ++ s v x) ≡ Ok x
+  again_of_two v known x q = message_again magic four (two_forms a) P s either v (a v) (form_known a v known) x q
+
+  pub only_of_two : (bytes : List ℕ) (x : X) → AreBytes bytes → read_message magic (two_forms a) bytes ≡ Ok x → (v : ℕ) × (is_version v ≡ true) × P v x × (bytes ≡ head magic v ++ s v x)
+  only_of_two bytes x fits e =
+      let m = message_only magic four (two_forms a) P s either bytes x fits e in
+      (m.0, (known_form a m.0 m.1 m.2).0, m.3, m.4)
+
 -- ---- what a decoder makes of a head
 
-pub head_malformed : (version : ℕ) (read : Read ℕ) (e : Failure Fault) → Names e read → IsHeadRefused version read (as_decoding e)
-head_malformed version read (Refused fault) h = subst (λ (r : Read ℕ). IsHeadRefused version r (Refused (Malformed fault.place))) (sym h) refl
-head_malformed version read NoMemory h = absurd h
+pub head_malformed : (known : ℕ → Bool) (read : Read ℕ) (e : Failure Fault) → Names e read → IsHeadRefused known read (as_decoding e)
+head_malformed known read (Refused fault) h = subst (λ (r : Read ℕ). IsHeadRefused known r (Refused (Malformed fault.place))) (sym h) refl
+head_malformed known read NoMemory h = absurd h
 
-pub head_unknown : (version found : ℕ) (read : Read ℕ) (rest : Rest) → read ≡ Ok (found, rest) → eqb found version ≡ false → IsHeadRefused version read (Refused (WrongVersion found))
-head_unknown version found read rest h other = subst (λ (r : Read ℕ). IsHeadRefused version r (Refused (WrongVersion found))) (sym h) (other, refl)
+pub head_unknown : (known : ℕ → Bool) (found : ℕ) (read : Read ℕ) (rest : Rest) → read ≡ Ok (found, rest) → known found ≡ false → IsHeadRefused known read (Refused (WrongVersion found))
+head_unknown known found read rest h other = subst (λ (r : Read ℕ). IsHeadRefused known r (Refused (WrongVersion found))) (sym h) (other, refl)
+
+refused_by : {X : Type 0} (forms : Forms X) (known : ℕ → Bool) → ((v : ℕ) → known v ≡ false → forms v ≡ None) → (read : Read ℕ) (why : Failure DecodeRefusal) → IsHeadRefused known read why → IsRefusedSo (versioned forms read) why
+refused_by {X} forms known none (Ok v) why h = subst (IsRefusedSo (versioned forms (Ok v))) (sym h.1) (ap (λ (f : Option (Reading X)). of_form f v.0 v.1) (none v.0 h.0))
+refused_by forms known none (Err place) why h = subst (IsRefusedSo (versioned forms (Err place))) (sym h) refl
 
 module _ {X : Type 0} (a : Reading X) (read : Read ℕ) where
   -- behind the head of the first version
   pub behind_head : (rest : Rest) → read ≡ Ok (1, rest) → versioned (first_form a) read ≡ ended (a rest)
   behind_head rest h = ap (versioned (first_form a)) h
 
-  pub before_head : (why : Failure DecodeRefusal) → IsHeadRefused 1 read why → IsRefusedSo (versioned (first_form a) read) why
-  before_head why = by read
-    where
-      by : (r : Read ℕ) → IsHeadRefused 1 r why → IsRefusedSo (versioned (first_form a) r) why
-      by (Ok v) h = subst (IsRefusedSo (versioned (first_form a) (Ok v))) (sym h.1) (ap (λ (b : Bool). of_form (cond b (Some a) None) v.0 v.1) h.0)
-      by (Err place) h = subst (IsRefusedSo (versioned (first_form a) (Err place))) (sym h) refl
+  pub before_head : (why : Failure DecodeRefusal) → IsHeadRefused (λ v. eqb v 1) read why → IsRefusedSo (versioned (first_form a) read) why
+  before_head = refused_by (first_form a) (λ v. eqb v 1) (λ v other. ap (λ (b : Bool). cond b (Some a) None) other) read
+
+module _ {X : Type 0} (a : ℕ → Reading X) (read : Read ℕ) where
+  -- behind the head of either version
+  pub behind_either : (v : ℕ) (rest : Rest) → read ≡ Ok (v, rest) → is_version v ≡ true → versioned (two_forms a) read ≡ ended (a v rest)
+  behind_either v rest h known = ap (versioned (two_forms a)) h ∙ ap (λ (f : Option (Reading X)). of_form f v rest) (form_known a v known)
+
+  pub before_either : (why : Failure DecodeRefusal) → IsHeadRefused is_version read why → IsRefusedSo (versioned (two_forms a) read) why
+  before_either = refused_by (two_forms a) is_version (λ v other. ap (λ (b : Bool). cond b (Some (a v)) None) other) read

@@ -3,6 +3,7 @@ pub mod Combining
 pub mod FieldLaws
 pub mod CompositeLaws
 pub mod VectorLaws
+pub mod TimedLaws
 pub mod Gathering
 pub mod Pieces
 pub mod HeadedLaws

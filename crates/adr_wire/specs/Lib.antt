@@ -7,3 +7,4 @@ pub mod Gathering
 pub mod Pieces
 pub mod Headed
 pub mod Optional
+pub mod Timed

@@ -6,6 +6,7 @@ ghost use Rattle.adr_wire.specs.Ranges as range;
 ghost use Rattle.adr_wire.specs.Fields as field;
 ghost use Rattle.adr_wire.specs.Composites as composite;
 ghost use Rattle.adr_wire.specs.Pieces as pieces;
+ghost use Rattle.adr_wire.specs.Timed as timed;
 
 /// Each field has one spelling: it is read again whatever follows, and nothing else is read as it.
 pub fn fields_have_one_spelling()
@@ -27,7 +28,8 @@ pub fn fields_have_one_spelling()
         → IsSpelling (λ found. found ≡ version) field.u16 (field.format_version_at version) }
 {}
 
-/// So has each composite. The spelling of a content is that of a row of its attribute.
+/// So has each composite. The spelling of a content is that of a row of its attribute. A vector with its times has one in
+/// each version.
 pub fn composites_have_one_spelling()
     ensures mark { IsSpelling range.IsMark composite.mark composite.mark_at }
     ensures ordered_mark { IsSpelling range.IsOrderedMark composite.mark composite.ordered_mark_at }
@@ -39,6 +41,7 @@ pub fn composites_have_one_spelling()
     ensures object { IsSpelling range.IsObject composite.object composite.object_at }
     ensures link { IsSpelling range.IsLink composite.link composite.link_at }
     ensures vector { IsSpelling range.IsCursors composite.vector composite.vector_at }
+    ensures timed { (version : ℕ) → IsSpelling (timed.IsTimed version) (timed.timed version) (timed.timed_at version) }
 {}
 
 /// So has an object or a link behind the kind that says which.

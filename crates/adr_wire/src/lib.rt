@@ -13,11 +13,12 @@ mod laws;
 mod lists;
 mod reader;
 mod refusal;
+mod timed;
 mod writer;
 mod writing;
 
 pub use adr_values::{Failure, NoMemory};
-pub use headed::{malformed, open_message};
+pub use headed::{malformed, open_known, open_message};
 pub use laws::{composites_have_one_spelling, fields_have_one_spelling, pieces_have_one_spelling};
 pub use reader::Reader;
 pub use refusal::{DecodeRefusal, Malformed, WireRefusal};

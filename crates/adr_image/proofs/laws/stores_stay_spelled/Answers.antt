@@ -5,4 +5,4 @@ pub returns-clause-begin : goal.returns-clause-begin
 returns-clause-begin c = begins_spelled
 
 pub returns-clause-stay : goal.returns-clause-stay
-returns-clause-stay c = λ s d id q has known. stays_spelled s d id q has known
+returns-clause-stay c = λ version s d id q has known. stays_spelled version s d id q has known

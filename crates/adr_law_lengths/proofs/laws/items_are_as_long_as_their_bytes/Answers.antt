@@ -1,4 +1,4 @@
-use Rattle.adr_law_lengths.proofs.Lengths.{value_long, content_long, object_long, link_long, vector_long}
+use Rattle.adr_law_lengths.proofs.Lengths.{value_long, content_long, object_long, link_long, vector_long, timed_long}
 use Rattle.adr_law_lengths.proofs.laws.items_are_as_long_as_their_bytes.Goals as goal
 
 pub returns-clause-values : goal.returns-clause-values
@@ -15,3 +15,6 @@ returns-clause-links c = λ l is. link_long l is
 
 pub returns-clause-vectors : goal.returns-clause-vectors
 returns-clause-vectors c = λ v is. vector_long v is
+
+pub returns-clause-timed : goal.returns-clause-timed
+returns-clause-timed c = λ t is. timed_long t is

@@ -5,7 +5,7 @@ use Rattle.adr_wire.proofs.Combining.{from}
 use Rattle.adr_model.specs.Store.{State}
 use Rattle.adr_law_journal.specs.Areas.{Began}
 use Rattle.adr_records.specs.Head.{began}
-use Rattle.adr_records.proofs.Heads.{area_there, no_image, no_size, own_image_is}
+use Rattle.adr_records.proofs.Heads.{area_there, no_image, no_size, own_image_is, sized_version}
 use Rattle.adr_records.proofs.head.read_area.Goals as goal
 
 pub returns-in_err-sized-clause-err : goal.returns-in_err-sized-clause-err
@@ -21,7 +21,7 @@ returns-in_err-contents-clause-err c =
 pub woken-requires : goal.woken-requires
 woken-requires c =
     let end = c.args.place + 6 + c.in_ok-sized.sized.1 in
-    own_image_is c.args.owner.inv c.in_ok-sized.sized.1 (c.args.place + 6) c.args.bytes.now c.in_ok-contents.contents (from end (drop end c.args.bytes.now)) (λ i. (c.type_inv.bytes i).fits) c.in_ok-contents.ensures
+    own_image_is c.in_ok-sized.sized.0 (sized_version c.args.bytes.now c.args.place (λ i. (c.type_inv.bytes i).fits) c.in_ok-sized.sized (from (c.args.place + 6) (drop (c.args.place + 6) c.args.bytes.now)) c.in_ok-sized.ensures.sized) c.args.owner.inv c.in_ok-sized.sized.1 (c.args.place + 6) c.args.bytes.now c.in_ok-contents.contents (from end (drop end c.args.bytes.now)) (λ i. (c.type_inv.bytes i).fits) c.in_ok-contents.ensures
 
 pub returns-clause-ok : goal.returns-clause-ok
 returns-clause-ok c =

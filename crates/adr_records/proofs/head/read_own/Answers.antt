@@ -13,19 +13,19 @@ use Rattle.adr_records.proofs.head.read_own.Goals as goal
 pub returns-in_err-contents : goal.returns-in_err-contents
 returns-in_err-contents c =
     let p = err_from_is_err_and c.from_residual.result c.from_residual.ensures.1 in
-    rw (p.1, p.2) (own_refused c.args.inv c.args.len (from c.args.place (drop c.args.place c.args.bytes.now)) c.in_err-contents.field-0.0 c.in_err-contents.ensures)
+    rw (p.1, p.2) (own_refused c.args.version c.args.inv c.args.len (from c.args.place (drop c.args.place c.args.bytes.now)) c.in_err-contents.field-0.0 c.in_err-contents.ensures)
 
 pub returns-then-at-contents : goal.returns-then-at-contents
 returns-then-at-contents c =
     let seen = c.at.ensures ∙ ap (λ (s : Store). at s.vector c.args.inv) c.contents.view_is in
     let usn = ap (λ (s : Store). s.usn) c.contents.view_is in
-    subst (λ (e : Failure Malformed). Refuses e (own_image_at c.args.inv c.args.len (from c.args.place (drop c.args.place c.args.bytes.now)))) (sym c.malformed.ensures)
-    (own_differs c.args.inv c.args.len (from c.args.place (drop c.args.place c.args.bytes.now)) c.in_ok-contents.contents (from (c.args.place + c.args.len) (drop (c.args.place + c.args.len) c.args.bytes.now)) c.in_ok-contents.ensures
+    subst (λ (e : Failure Malformed). Refuses e (own_image_at c.args.version c.args.inv c.args.len (from c.args.place (drop c.args.place c.args.bytes.now)))) (sym c.malformed.ensures)
+    (own_differs c.args.version c.args.inv c.args.len (from c.args.place (drop c.args.place c.args.bytes.now)) c.in_ok-contents.contents (from (c.args.place + c.args.len) (drop (c.args.place + c.args.len) c.args.bytes.now)) c.in_ok-contents.ensures
     (λ same. c.if-at-contents.true (seen ∙ same ∙ sym usn)))
 
 pub returns : goal.returns
 returns c =
     let seen = c.at.ensures ∙ ap (λ (s : Store). at s.vector c.args.inv) c.contents.view_is in
     let usn = ap (λ (s : Store). s.usn) c.contents.view_is in
-    own_read c.args.inv c.args.len (from c.args.place (drop c.args.place c.args.bytes.now)) c.in_ok-contents.contents (from (c.args.place + c.args.len) (drop (c.args.place + c.args.len) c.args.bytes.now)) c.in_ok-contents.ensures
+    own_read c.args.version c.args.inv c.args.len (from c.args.place (drop c.args.place c.args.bytes.now)) c.in_ok-contents.contents (from (c.args.place + c.args.len) (drop (c.args.place + c.args.len) c.args.bytes.now)) c.in_ok-contents.ensures
     (sym seen ∙ c.if-at-contents.false ∙ usn)

@@ -21,19 +21,19 @@ pub returns-in_err-contents-clause-refused : goal.returns-in_err-contents-clause
 returns-in_err-contents-clause-refused c =
     let there = stands_there c.args.bytes.now c.args.place c.args.len c.min-end.result c.at-reader.result c.min-end.ensures c.requires c.at-reader.ensures in
     let p = err_from_is_err_and c.from_residual.result c.from_residual.ensures.1 in
-    rw (p.1, p.2) (within_refused image_at c.args.len (from c.args.place (drop c.args.place c.args.bytes.now)) c.in_err-contents.field-0.0 (subst (λ (r : Rest). Refuses c.in_err-contents.field-0.0 (image_at r)) there c.in_err-contents.ensures))
+    rw (p.1, p.2) (within_refused (image_at c.args.version) c.args.len (from c.args.place (drop c.args.place c.args.bytes.now)) c.in_err-contents.field-0.0 (subst (λ (r : Rest). Refuses c.in_err-contents.field-0.0 (image_at c.args.version r)) there c.in_err-contents.ensures))
 
 pub returns-in_err-end-clause-refused : goal.returns-in_err-end-clause-refused
 returns-in_err-end-clause-refused c =
     let there = stands_there c.args.bytes.now c.args.place c.args.len c.min-end.result c.at-reader.result c.min-end.ensures c.requires c.at-reader.ensures in
     let p = err_from_is_err_and c.from_residual-in_err-end.result c.from_residual-in_err-end.ensures.1 in
-    let left = within_left image_at c.args.len (from c.args.place (drop c.args.place c.args.bytes.now)) c.in_ok-contents.contents c.read_image.new.reader (ap image_at (sym there) ∙ c.in_ok-contents.ensures)
+    let left = within_left (image_at c.args.version) c.args.len (from c.args.place (drop c.args.place c.args.bytes.now)) c.in_ok-contents.contents c.read_image.new.reader (ap (image_at c.args.version) (sym there) ∙ c.in_ok-contents.ensures)
     (some_left c.read_image.new.reader.bytes c.in_err-end.ensures.end.1) in
-    rw (p.1, p.2) (subst (λ (e : Failure Malformed). Refuses e (within_at image_at c.args.len (from c.args.place (drop c.args.place c.args.bytes.now)))) (sym c.in_err-end.ensures.place) left)
+    rw (p.1, p.2) (subst (λ (e : Failure Malformed). Refuses e (within_at (image_at c.args.version) c.args.len (from c.args.place (drop c.args.place c.args.bytes.now)))) (sym c.in_err-end.ensures.place) left)
 
 pub returns-clause-read : goal.returns-clause-read
 returns-clause-read c =
     let there = stands_there c.args.bytes.now c.args.place c.args.len c.min-end.result c.at-reader.result c.min-end.ensures c.requires c.at-reader.ensures in (
       c.read_image.new.reader,
-      within_read image_at c.args.len (from c.args.place (drop c.args.place c.args.bytes.now)) c.in_ok-contents.contents c.read_image.new.reader (ap image_at (sym there) ∙ c.in_ok-contents.ensures) (c.in_ok-end.ensures.end.0 refl),
+      within_read (image_at c.args.version) c.args.len (from c.args.place (drop c.args.place c.args.bytes.now)) c.in_ok-contents.contents c.read_image.new.reader (ap (image_at c.args.version) (sym there) ∙ c.in_ok-contents.ensures) (c.in_ok-end.ensures.end.0 refl),
     )

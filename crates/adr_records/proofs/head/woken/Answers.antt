@@ -6,9 +6,9 @@ use Rattle.adr_records.proofs.Making.{made_each}
 use Rattle.adr_records.proofs.head.woken.Goals as goal
 
 pub unless_full-requires : goal.unless_full-requires
-unless_full-requires c = λ is. own_fits c.args.owner.inv c.args.len c.args.contents c.requires (c.wake.ensures.full is)
+unless_full-requires c = λ is. own_fits c.args.owner.inv c.args.contents c.requires (c.wake.ensures.full is)
 
 pub returns : goal.returns
 returns c =
-    subst (λ (t : State). IfOk c.unless_full.result (λ s. s ≡ t)) (own_woken (c.args.owner.dsa, c.args.owner.inv) c.args.len c.args.contents c.requires)
+    subst (λ (t : State). IfOk c.unless_full.result (λ s. s ≡ t)) (own_woken (c.args.owner.dsa, c.args.owner.inv) c.args.contents c.requires)
     (made_each (λ (s : State). s ≡ woken c.args.contents c.args.owner.dsa c.args.owner.inv) c.wake.result c.unless_full.result c.wake.ensures.ok c.unless_full.ensures.ok)

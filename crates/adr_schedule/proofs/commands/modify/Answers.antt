@@ -2,7 +2,8 @@ use Rattle.std.proofs.Common.{◌≡◌, ℕ, List, [], length, Some, None, refl
 use Rattle.std.proofs.lemmas.Bool.{ne_eqb}
 use Rattle.std.proofs.lemmas.List.{nil_from_length}
 use Rattle.adr_call.specs.declared.write.Write.TheVariants.{Modify}
-use Rattle.adr_call.specs.declared.event.Event.TheVariants.{Write}
+use Rattle.adr_call.specs.declared.call.Call.TheVariants.{Write}
+use Rattle.adr_call.specs.declared.event.Event.TheVariants.{Calls}
 use Rattle.adr_values.specs.Assignments.{Given}
 use Rattle.adr_token.specs.Identifiers.{identifier_at}
 use Rattle.adr_token.specs.Words.{name_at}
@@ -17,7 +18,7 @@ unfolding modify_line
 without_sets bytes name guid behind rest values n g v none = rw (n, g, v, none) refl
 
 with_some : (bytes name guid behind rest : List ℕ) (values : List Given) → name_at bytes ≡ Some (name, behind) → identifier_at behind ≡ Some (guid, rest) → sets_at rest ≡ Some values
-    → (values ≡ [] → ⊥) → modify_line bytes ≡ Some (Write name (Modify guid values))
+    → (values ≡ [] → ⊥) → modify_line bytes ≡ Some (Calls name (Write (Modify guid values)))
 unfolding modify_line
 with_some bytes name guid behind rest values n g v some = rw (n, g, v, ne_eqb (length values) 0 (λ none. some (nil_from_length values none))) refl
 

@@ -1,7 +1,7 @@
 use Rattle.std.proofs.Common.{◌∙◌, inl, inr, ap, refl, sym, subst, ◌∷◌, Option, Some, None, Ok, Err, arith}
 use Rattle.std.proofs.lemmas.Result.{err_from_is_err_and}
 use Rattle.adr_session.specs.declared.ending.ServeFault.TheVariants as faults
-use Rattle.adr_session.specs.Lines.{deed_said}
+use Rattle.adr_session.specs.Lines.{call_said}
 use Rattle.adr_session.specs.Talk.{Gives, Said, acts, said_in}
 use Rattle.adr_session.specs.Made.{Reacts}
 use Rattle.adr_session.proofs.FrameAnswers.{answers_err, answers_ok, line_sent, no_clock, same_err, says_nothing, wants_memory, wants_time}
@@ -76,7 +76,7 @@ returns-in_err-answer_at-clause-answer g c =
     let after = g.C.Clock.moments c.now.new.self in
     let r = err_from_is_err_and c.from_residual.result c.from_residual.ensures.1 in
     subst (λ (said : Option Said). Reacts (λ v. v.items) k said c.args.controller.now c.answer_at.new.controller c.from_residual.result before after) (sym (line_said body (sym c.is_line.ensures ∙ c.if-not-is_line.false)))
-    (answers_err (λ v. v.items) k (λ f. acts f c.in-Ok.now (deed_said body)) c.args.controller.now c.answer_at.new.controller c.answer_at.result c.answer_at.ensures (Some (Gives body)) before after
+    (answers_err (λ v. v.items) k (λ f. acts f c.in-Ok.now (call_said body)) c.args.controller.now c.answer_at.new.controller c.answer_at.result c.answer_at.ensures (Some (Gives body)) before after
     (line_sent body c.in-Ok.now before after c.in-Ok.ensures.taken) c.in_err-answer_at.field-0.0 c.from_residual.result c.in_err-answer_at.was (r.1 ∙ ap Err r.2))
 
 pub returns-in_err-answer_at-clause-at_line : goal.returns-in_err-answer_at-clause-at_line
@@ -89,7 +89,7 @@ returns-in_err-answer_at-clause-clock g c = λ is.
     let before = g.C.Clock.moments c.args.clock.now in
     let after = g.C.Clock.moments c.now.new.self in
     let r = err_from_is_err_and c.from_residual.result c.from_residual.ensures.1 in
-    absurd (no_clock (λ v. v.items) k (λ f. acts f c.in-Ok.now (deed_said body)) c.args.controller.now c.answer_at.new.controller c.answer_at.result c.answer_at.ensures (Some (Gives body)) before after
+    absurd (no_clock (λ v. v.items) k (λ f. acts f c.in-Ok.now (call_said body)) c.args.controller.now c.answer_at.new.controller c.answer_at.result c.answer_at.ensures (Some (Gives body)) before after
     (line_sent body c.in-Ok.now before after c.in-Ok.ensures.taken) (c.in_err-answer_at.was ∙ ap Err (sym r.2 ∙ same_err c.from_residual.result r.0 faults.Clock r.1 is)) c.requires.up c.state.ensures.in_order)
 
 pub returns-in_err-answer_at-clause-clock_never_falls : goal.returns-in_err-answer_at-clause-clock_never_falls
@@ -106,7 +106,7 @@ returns-clause-answer g c =
     let after = g.C.Clock.moments c.now.new.self in
     let v = c.in_ok-answer_at.field-0 in
     subst (λ (said : Option Said). Reacts (λ v. v.items) k said c.args.controller.now c.answer_at.new.controller (Ok (Some v)) before after) (sym (line_said body (sym c.is_line.ensures ∙ c.if-not-is_line.false)))
-    (answers_ok (λ v. v.items) k (λ f. acts f c.in-Ok.now (deed_said body)) c.args.controller.now c.answer_at.new.controller c.answer_at.result c.answer_at.ensures (Some (Gives body)) before after
+    (answers_ok (λ v. v.items) k (λ f. acts f c.in-Ok.now (call_said body)) c.args.controller.now c.answer_at.new.controller c.answer_at.result c.answer_at.ensures (Some (Gives body)) before after
     (line_sent body c.in-Ok.now before after c.in-Ok.ensures.taken) v (Ok (Some v)) c.in_ok-answer_at.was refl)
 
 pub returns-clause-at_line : goal.returns-clause-at_line

@@ -1,4 +1,4 @@
-use Rattle.std.proofs.Common.{◌∙◌, ap, refl, sym, Some, None, Ok, Err}
+use Rattle.std.proofs.Common.{◌∙◌, ap, arith, refl, sym, Some, None, Ok, Err}
 use Rattle.std.proofs.lemmas.Result.{err_from_is_err_and}
 use Rattle.adr_model.specs.Serve.{serve}
 use Rattle.adr_law_journal.proofs.Told.{some_of}
@@ -16,7 +16,7 @@ replied-requires g c =
     let up = some_of c.args.controller.now.state c.requires.up in
     record {
       short = c.replies_have_one_spelling.ensures.short c.in-Ok.reply
-          (c.served_replies_have_a_form.ensures up.0 c.args.request.now c.in-Ok.reply 0 (c.requires.log.logged up.0 (c.state.ensures.in_order.up up.0 up.1).0.formed) c.requires.form (c.in-Ok.ensures.served up.0 0 up.1));
+          (c.served_replies_have_a_form.ensures up.0 c.args.request.now c.in-Ok.reply 0 (c.requires.log.logged up.0 (c.state.ensures.in_order.up up.0 up.1).0.formed) c.requires.form (omega arith) (c.in-Ok.ensures.served up.0 0 up.1));
     }
 
 pub returns-in_err-replied-in-Ok : goal.returns-in_err-replied-in-Ok

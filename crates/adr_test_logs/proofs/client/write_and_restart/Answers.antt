@@ -1,7 +1,8 @@
 use Rattle.std.proofs.Common.{◌≡◌, refl, Some, Ok, Err, [], ◌∷◌}
 use Rattle.adr_law_journal.proofs.Told.{both_ok}
+use Rattle.adr_call.specs.declared.call.Call.TheVariants as calls
 use Rattle.adr_controller.specs.Ended.{call_hindrance}
-use Rattle.adr_law_controller.specs.Called.{Writes}
+use Rattle.adr_law_controller.specs.Called.{Does}
 use Rattle.adr_law_controller.specs.Behind.{Calls, Stops, Starts}
 use Rattle.adr_law_controller.specs.Laws.{Leads, StartsSo}
 use Rattle.adr_test_logs.proofs.Clients.{found_behind}
@@ -12,7 +13,7 @@ unfolding Leads
 returns g c =
     let k = g.K.Keeper in
     let old = c.args.controller.now in
-    let call = Writes c.args.what.now c.args.now in
+    let call = Does (calls.Write c.args.what.now) c.args.now in
     let how = call_hindrance c.write.result in
     let mid = c.write.new.self in
     let stopped = c.stop.new.self in

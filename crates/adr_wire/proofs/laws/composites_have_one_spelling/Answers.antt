@@ -1,4 +1,5 @@
 use Rattle.adr_wire.proofs.CompositeLaws.{mark_spelled, ordered_mark_spelled, oid_spelled, stamp_spelled, value_spelled, content_spelled, row_spelled, object_spelled, link_spelled}
+use Rattle.adr_wire.proofs.TimedLaws.{timed_spelled}
 use Rattle.adr_wire.proofs.VectorLaws.{vector_spelled}
 use Rattle.adr_wire.proofs.laws.composites_have_one_spelling.Goals as goal
 
@@ -31,3 +32,6 @@ returns-clause-link c = link_spelled
 
 pub returns-clause-vector : goal.returns-clause-vector
 returns-clause-vector c = vector_spelled
+
+pub returns-clause-timed : goal.returns-clause-timed
+returns-clause-timed c version = timed_spelled version

@@ -1,4 +1,4 @@
-use Rattle.std.proofs.Common.{◌∙◌, ap, Err}
+use Rattle.std.proofs.Common.{◌∙◌, ap, arith, Err}
 use Rattle.adr_run_replica.specs.Pending.{serving}
 use Rattle.adr_run_replica.proofs.Answered.{same_served}
 use Rattle.adr_run_replica.proofs.Came.{CameTo, came_to}
@@ -42,7 +42,7 @@ pub returns-clause-spelled : goal.returns-clause-spelled
 returns-clause-spelled c =
     let s = c.args.self.now.safe in
     served_spelled _ _ _ _ _ _ _ _ c.args.request.now c.requires.version (came c) c.hindrance_in-how.ensures (ended c) c.serve-made.ensures.served _
-    (λ reply there is. c.replies_are_in_range.ensures s c.args.request.now reply 0 (c.goes_as_planned.ensures.in_order.up s there).0.formed c.requires is)
+    (λ reply there is. c.replies_are_in_range.ensures s c.args.request.now reply 0 (c.goes_as_planned.ensures.in_order.up s there).0.formed c.requires (omega arith) is)
 
 pub returns-clause-err : goal.returns-clause-err
 returns-clause-err c = serve_undone _ _ _ _ _ _ _ _ c.args.request.now c.requires.version (came c) c.hindrance_in-how.ensures (ended c) c.serve-made.ensures.served

@@ -1,13 +1,12 @@
 use Rattle.std.proofs.Common.{◌≡◌, ◌∙◌, ap, subst, codes}
 use Rattle.adr_call.specs.declared.event.Event.TheVariants.{Ask}
 use Rattle.adr_call.specs.Supported.{IsSupported}
-use Rattle.adr_call.specs.Verbs.{verb_of_report, verb_of_write, word_of}
+use Rattle.adr_call.specs.Verbs.{verb_of_call, verb_of_report, word_of}
 use Rattle.adr_law_recorded.specs.Typed.{IsTyped}
-use Rattle.adr_model.specs.Collect.{collect}
 use Rattle.adr_model.specs.Convergence.{MayHappen}
 use Rattle.adr_model.specs.Step.{told}
-use Rattle.adr_model.specs.World.{after_collect, bound_at, delivers, of_controller, of_made, put_back, replica_at, reported, starts, stays, writes}
-use Rattle.adr_model.specs.Write.{write_meant}
+use Rattle.adr_model.specs.World.{bound_at, delivers, of_controller, of_made, put_back, replica_at, reported, starts, stays, does}
+use Rattle.adr_model.specs.Client.{call_meant}
 use Rattle.adr_run_world.specs.Run.{world_of}
 use Rattle.adr_run_world.proofs.Answered.{call_so, line_so, one_so}
 use Rattle.adr_run_world.proofs.run.Run.outcome.Goals as goal
@@ -27,17 +26,20 @@ snapshot-requires-clause-unbound c = subst (MayHappen (world_of c.args.self.now)
 pub returns-in-Controller-clause-stepped : goal.returns-in-Controller-clause-stepped
 returns-in-Controller-clause-stepped c = line_so (world_of c.args.self.now) (world_of c.controller.new.self) c.args.event.now _ c.controller.result c.in-Controller.is c.controller.ensures.stepped
 
-pub written-requires-clause-given : goal.written-requires-clause-given
-written-requires-clause-given c = subst (MayHappen (world_of c.args.self.now)) c.in-Write.is c.requires.may
+pub called-requires-clause-given : goal.called-requires-clause-given
+called-requires-clause-given c = subst (MayHappen (world_of c.args.self.now)) c.in-Calls.is c.requires.may
 
-pub written-requires-clause-typed : goal.written-requires-clause-typed
-written-requires-clause-typed c = subst IsTyped c.in-Write.is c.requires.typed
+pub called-requires-clause-typed : goal.called-requires-clause-typed
+called-requires-clause-typed c = subst IsTyped c.in-Calls.is c.requires.typed
 
-pub returns-in-Write-clause-stepped : goal.returns-in-Write-clause-stepped
-returns-in-Write-clause-stepped c =
+pub called-requires-clause-supported : goal.called-requires-clause-supported
+called-requires-clause-supported c = subst IsSupported c.in-Calls.is c.requires.supported
+
+pub returns-in-Calls-clause-stepped : goal.returns-in-Calls-clause-stepped
+returns-in-Calls-clause-stepped c =
     let w = world_of c.args.self.now in
-    line_so w (world_of c.written.new.self) c.args.event.now _ c.written.result c.in-Write.is
-    (call_so (word_of (verb_of_write c.in-Write.what)) c.in-Write.name (writes w c.in-Write.name (write_meant c.in-Write.what)) (world_of c.written.new.self) c.written.result c.written.ensures.written)
+    line_so w (world_of c.called.new.self) c.args.event.now _ c.called.result c.in-Calls.is
+    (call_so (word_of (verb_of_call c.in-Calls.what)) c.in-Calls.name (does w c.in-Calls.name (call_meant c.in-Calls.what w.time)) (world_of c.called.new.self) c.called.result c.called.ensures.called)
 
 pub returns-in-Ask-clause-stepped : goal.returns-in-Ask-clause-stepped
 returns-in-Ask-clause-stepped c =
@@ -53,12 +55,6 @@ returns-in-Deliver-clause-stepped c =
     let w = world_of c.args.self.now in
     line_so w (world_of c.take_bound.new.self) c.args.event.now _ c.take_bound.result c.in-Deliver.is
     (call_so (codes "deliver") c.in-Deliver.name (delivers w c.in-Deliver.name (bound_at w.replies c.in-Deliver.reply)) (world_of c.take_bound.new.self) c.take_bound.result c.take_bound.ensures.taken)
-
-pub returns-in-Collect-clause-stepped : goal.returns-in-Collect-clause-stepped
-returns-in-Collect-clause-stepped c =
-    let w = world_of c.args.self.now in
-    line_so w (world_of c.collected.new.self) c.args.event.now _ c.collected.result c.in-Collect.is
-    (call_so (codes "collect") c.in-Collect.name (of_controller w c.in-Collect.name (stays w) (λ r. after_collect w r c.in-Collect.lifetime (collect r.safe w.time c.in-Collect.lifetime))) (world_of c.collected.new.self) c.collected.result c.collected.ensures.collected)
 
 pub returns-in-Backup-clause-stepped : goal.returns-in-Backup-clause-stepped
 returns-in-Backup-clause-stepped c = line_so (world_of c.args.self.now) (world_of c.backup.new.self) c.args.event.now _ c.backup.result c.in-Backup.is c.backup.ensures.stepped

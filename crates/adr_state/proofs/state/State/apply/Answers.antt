@@ -44,6 +44,8 @@ returns-clause-ok c =
     let rest = c.take_held.ensures.rest in
     let purged : c.renew.new.vector ≡ joined old.purged change.purged =
     c.renew.ensures ∙ subst (λ (s : State). unwrap_or c.in_ok-purged.purged s.store.purged ≡ (after s change).store.purged) (sym c.self.view_is) c.in_ok-purged.ensures.ok in
+    let times : c.renew_times.new.times ≡ joined old.times change.times =
+    c.renew_times.ensures ∙ subst (λ (s : State). unwrap_or c.in_ok-times.times s.store.times ≡ (after s change).store.times) (sym c.self.view_is) c.in_ok-times.ensures in
     let marks : c.renew-2.new.self ≡ with_mark change.mark old.marks =
     c.renew-2.ensures ∙ ap (λ m. unwrap_or c.in_ok-marks.marks (with_mark m old.marks)) c.mark-2.ensures
     ∙ ap (λ (x : Change). unwrap_or c.in_ok-marks.marks (with_mark x.mark old.marks)) rest
@@ -52,4 +54,4 @@ returns-clause-ok c =
     c.in_ok-write.ensures.ok ∙ ap (λ os. rows_after os c.in_ok-rows.rows.items old.rows) (c.removed.ensures ∙ ap (λ (x : Change). x.removed) rest) ∙ ap (λ hs. rows_after change.removed hs old.rows) c.in_ok-rows.ensures.rows in
     rw (← c.self.view_is) (state_is (the_view old) change _ _ _ _ _ _ _ _ (c.mode-self-inside.ensures ∙ ap (λ (x : Change). x.mode) rest) (c.schema-self-inside.ensures.number ∙ ap (λ (x : Change). x.schema) rest) (c.usn-self-inside.ensures ∙ ap (λ (x : Change). x.usn) rest) rows
     (vector (goal.at.returns-clause-ok c).After-renew_seen)
-    (sym (ap (joined []) (sym (ap (λ (x : Change). x.times) rest) ∙ c.joins_no_times.ensures))) purged marks)
+    times purged marks)

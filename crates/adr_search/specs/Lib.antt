@@ -1,0 +1,9 @@
+pub mod Truths
+pub mod Fields
+pub mod Asked
+pub mod Pieces
+pub mod Behind
+pub mod Match
+pub mod Rows
+pub mod Scopes
+pub mod Seen
