@@ -1,1 +1,4 @@
+pub mod Device
+pub mod Known
+pub mod Laws
 pub mod State

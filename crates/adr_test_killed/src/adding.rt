@@ -14,7 +14,7 @@ use crate::keeping::{tell, usn_of, wake};
 use crate::objects::addition;
 use adr_controller::{Controller, Keeper};
 use adr_disk::Disk;
-use adr_file::FileDisk;
+use adr_file::{FileDisk, SystemFolder};
 use adr_journal::Journal;
 use adr_law_recorded::{
     logged_states_fit, recorded_changes_leave_logged_states, writes_are_recorded,
@@ -68,7 +68,7 @@ fn go_on<K: Keeper>(
 /// Starts the controller in a file, and adds so many objects.
 pub fn run(rt: &HostRuntime, name: &str, first: u64, count: u64) -> Result<(), Ending> {
     let mut controller = wake(rt, name)?;
-    additions_follow::<FileDisk<&HostRuntime>>();
+    additions_follow::<FileDisk<SystemFolder<&HostRuntime>>>();
     let ended = go_on(rt, &mut controller, first, count);
     drop(controller);
     ended

@@ -8,15 +8,18 @@ use crate::ending::Ending;
 use crate::objects::number_of;
 use adr_controller::{Controller, Keeper, State};
 use adr_disk::Disk;
-use adr_file::FileDisk;
+use adr_file::{FileDisk, SystemFolder};
 use adr_journal::Journal;
 use adr_law_recorded::new_controllers_may_begin;
 use adr_records::Records;
 use adr_values::Guid;
 use std::alloc::Global;
 
+/// A file of the present folder.
+pub type File<'a> = FileDisk<SystemFolder<&'a HostRuntime>>;
+
 /// The log of a controller, in a file.
-pub type Log<'a> = Journal<FileDisk<&'a HostRuntime>, Records>;
+pub type Log<'a> = Journal<File<'a>, Records>;
 
 /// Writes a line, which ends in a line feed, in one piece.
 pub fn tell(rt: &HostRuntime, line: &str) -> Result<(), Ending> {
@@ -34,8 +37,8 @@ fn new_state(alloc: Global) -> State
 }
 
 /// A file of the present folder, which is made where it isn't there.
-fn file_at<'a>(rt: &'a HostRuntime, name: &str) -> Result<FileDisk<&'a HostRuntime>, Ending> {
-    let mut disk = FileDisk::new(rt);
+fn file_at<'a>(rt: &'a HostRuntime, name: &str) -> Result<File<'a>, Ending> {
+    let mut disk = FileDisk::new(SystemFolder::new(rt));
     disk.attach(name)?;
     Ok(disk)
 }

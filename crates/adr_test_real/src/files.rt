@@ -1,15 +1,22 @@
 //! A disk over a file of the present folder.
 
 use adr_disk::Disk;
-use adr_file::FileDisk;
+use adr_file::{FileDisk, SystemFolder};
 use adr_io::Fault;
 use std::fs::{self, OpenOptions};
 use std::io;
 use std::test::Fail;
 
+type File<'a> = FileDisk<SystemFolder<&'a HostRuntime>>;
+
+/// A disk over the present folder.
+fn disk_over(rt: &HostRuntime) -> File<'_> {
+    FileDisk::new(SystemFolder::new(rt))
+}
+
 /// A disk over a new file of that name, with four bytes that are synced.
-fn written<'a>(rt: &'a HostRuntime, name: &str) -> Result<FileDisk<&'a HostRuntime>, Fault> {
-    let mut disk = FileDisk::new(rt);
+fn written<'a>(rt: &'a HostRuntime, name: &str) -> Result<File<'a>, Fault> {
+    let mut disk = disk_over(rt);
     disk.attach(name)?;
     disk.write_at(0, b"abcd")?;
     disk.sync()?;
@@ -18,7 +25,7 @@ fn written<'a>(rt: &'a HostRuntime, name: &str) -> Result<FileDisk<&'a HostRunti
 
 /// How long a file is, and what is read of it from its third byte on.
 fn opened_again(rt: &HostRuntime, name: &str) -> Result<(u64, usize, [u8; 8]), Fault> {
-    let mut disk = FileDisk::new(rt);
+    let mut disk = disk_over(rt);
     disk.attach(name)?;
     let mut into = [0; 8];
     let len = disk.len()?;
@@ -36,7 +43,7 @@ fn a_file_is_written_and_opened_again(rt: HostRuntime) -> Result<(), Fail> {
 
 #[test]
 fn without_a_file_of_the_folder_each_call_fails(rt: HostRuntime) {
-    let mut disk = FileDisk::new(&rt);
+    let mut disk = disk_over(&rt);
     let told = [
         disk.sync(),
         disk.write_at(0, b"x"),
@@ -49,7 +56,7 @@ fn without_a_file_of_the_folder_each_call_fails(rt: HostRuntime) {
 #[test]
 fn a_file_is_locked_while_it_is_attached(rt: HostRuntime) -> Result<(), Fail> {
     let first = written(&rt, "locked")?;
-    let mut second = FileDisk::new(&rt);
+    let mut second = disk_over(&rt);
     let beside = second.attach("locked");
     drop(first);
     assert_eq!(rt;
@@ -110,7 +117,7 @@ fn a_file_that_another_hand_takes_is_a_fault(rt: HostRuntime) -> Result<(), Fail
 
 #[test]
 fn a_file_that_comes_where_none_was_is_a_fault(rt: HostRuntime) -> Result<(), Fail> {
-    let mut disk = FileDisk::new(&rt);
+    let mut disk = disk_over(&rt);
     disk.attach("come")?;
     fs::write(&rt, "come.adr", b"other")?;
     assert_eq!(rt;

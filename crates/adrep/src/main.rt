@@ -3,7 +3,7 @@
 #![tactic(auto)]
 
 use adr_cmd::run;
-use adr_file::{FileDisk, hold_streams};
+use adr_file::{FileDisk, SystemFolder, hold_streams};
 use adr_io::{ReadSource, WriteSink};
 use adr_outside::{RandomFresh, SystemClock, TcpNet};
 use std::process::ExitCode;
@@ -27,7 +27,7 @@ fn main(rt: HostRuntime) -> ExitCode {
     };
     let mut source = ReadSource::new(rt.reader());
     let mut sink = WriteSink::new(io::writer(&rt));
-    let disk = FileDisk::new(&rt);
+    let disk = FileDisk::new(SystemFolder::new(&rt));
     let mut net = TcpNet::new(&rt);
     let mut clock = SystemClock::new(&rt);
     let mut fresh = RandomFresh::new(&rt);
