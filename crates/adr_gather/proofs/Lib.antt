@@ -1,3 +1,9 @@
 mod Steps
 mod Putting
 mod Settled
+mod Joined
+mod Viewing
+mod Finding
+mod Moving
+mod Committing
+mod Restarted

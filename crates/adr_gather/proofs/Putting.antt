@@ -7,7 +7,7 @@ use Rattle.adr_law_journal.specs.Log.{open_gate}
 use Rattle.adr_law_journal.proofs.Windows.{torn_before}
 use Rattle.adr_gather.specs.Held.{opened, with_held}
 
-put_at : (xs ys : List ℕ) (n : ℕ) (bytes : List ℕ) → length xs ≡ n → put (xs ++ ys) n bytes ≡ (xs ++ bytes) ++ drop (length bytes) ys
+pub put_at : (xs ys : List ℕ) (n : ℕ) (bytes : List ℕ) → length xs ≡ n → put (xs ++ ys) n bytes ≡ (xs ++ bytes) ++ drop (length bytes) ys
 put_at xs ys n bytes is =
     ap (λ (l : List ℕ). (l ++ bytes) ++ drop (n + length bytes) (xs ++ ys)) (take_at xs ys n is)
     ∙ ap (λ (l : List ℕ). (xs ++ bytes) ++ l) (sym (drop-drop (length bytes) n (xs ++ ys)) ∙ ap (drop (length bytes)) (drop_at xs ys n is))
@@ -35,7 +35,7 @@ some_held gate [] there some within = absurd (omega (arith, some))
 some_held gate (b ∷ held) there some within = ap (λ (c : Bool). if c then opened there gate (b ∷ held) else there) (lt-ltb gate (length there) within)
 
 -- and all is one piece
-in_one_piece : (gate : ℕ) (held there : List ℕ) → 1 ≤ length held → gate < length there → with_held gate held there ≡ put there gate (open_gate ∷ held)
+pub in_one_piece : (gate : ℕ) (held there : List ℕ) → 1 ≤ length held → gate < length there → with_held gate held there ≡ put there gate (open_gate ∷ held)
 in_one_piece gate held there some within = some_held gate held there some within ∙ put_front there held gate open_gate within
 
 -- a write that is torn within what is held is made good by writing it again

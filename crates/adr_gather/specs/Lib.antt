@@ -1,2 +1,4 @@
 pub mod Held
 pub mod Taken
+pub mod Gathered
+pub mod Laws

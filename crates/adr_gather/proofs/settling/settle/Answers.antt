@@ -12,7 +12,7 @@ use Rattle.adr_gather.proofs.Putting.{torn_same}
 use Rattle.adr_gather.proofs.Settled.{behind_finds, gate_finds, mid_there, mid_within, new_only, new_written, same_behind, settled_behind}
 use Rattle.adr_gather.proofs.Steps.{Leaves, if_before, torn_left, moments_joined, moments_of}
 use Rattle.adr_gather.proofs.settling.settle.Goals as goal
-use Rattle.adr_gather.proofs.settling.settle.Goals.{After-write_through, In_ok-write_through, After-write_through-2}
+use Rattle.adr_gather.proofs.settling.settle.Goals.{After-write_through, After-write_through-2}
 
 -- ---- what stands behind the gate
 
