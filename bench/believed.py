@@ -1,14 +1,16 @@
 #!/usr/bin/env python3
 """What a reader has to believe, held against the three tables of docs/MODEL.md.
 
-It goes from contracts along the imports, definition by definition: of each it takes the names that its own text uses, and from
-there the definitions of these. The first table is what the claims on schedules reach (THEOREM), the second what else the contract
-of `run` does (COMMANDS), the third what else the other claims reach (OTHERS). A type that has a view is followed by its view, another by its fields, and a trait whole. Fields of records count
-with their record, and a local name that is also that of a definition counts as that, so a little too much is found, and nothing
-too little. The standard library's definitions are left out.
+It goes from contracts along the imports, definition by definition: of each it takes the names that its own text uses,
+and from there the definitions of these. The first table is what the claims on schedules reach (THEOREM), the second
+what else the contract of `run` does (COMMANDS), the third what else the other claims reach (OTHERS). A type that has a
+view is followed by its view, another by its fields, and a trait whole. Fields of records count with their record, and a
+local name that is also that of a definition counts as that, so a little too much is found, and nothing too little. The
+standard library's definitions are left out.
 
-It prints which files a table lacks, which are listed though nothing reaches them, and how many lines are reached: those of the
-definitions, without imports and comments. The status is 1 where MODEL lacks a file.
+It prints which files a table lacks, which are listed though nothing reaches them, and how many lines are reached: those
+of the definitions, without imports and comments. The status is 1 where MODEL lacks a file. `build/house.py`, which the
+gate runs, asks for the same.
 
     bench/believed.py            # the comparison
     bench/believed.py --names    # and the definitions that are reached, file by file
@@ -71,16 +73,25 @@ def code(path):
     return left_out.sub(lambda m: '""' if m[0][0] == '"' else "", (CRATES / path).read_text())
 
 
-def names_of(text, crate):
-    """What its imports bind: a name to the path of what it names."""
+@lru_cache(None)
+def names_of(file, crate):
+    """What a file's imports bind: a name to the path of what it names."""
     names = {}
-    for path, inside, alias in USE.findall(text):
+    for path, inside, alias in USE.findall(code(file)):
         path = re.sub(r"^crate\b", crate, path.strip()).replace("::", ".").rstrip(".").removeprefix("Rattle.")
         entries = [f"{path}.{entry.strip()}" for entry in inside.split(",") if entry.strip()] or [f"{path} as {alias}" if alias else path]
         for entry in entries:
             whole, _, name = entry.partition(" as ")
             names[name or whole.rsplit(".", 1)[1]] = whole
     return names
+
+
+@lru_cache(None)
+def imported(file, crate):
+    """What its imports bind besides: operators with their signs, and whole files of definitions."""
+    names = names_of(file, crate)
+    signs = [(name, name.strip("◌")) for name in names if "◌" in name]
+    return signs, {name for name, whole in names.items() if whole.split(".")[1:2] == ["specs"] and whole.count(".") == 2}
 
 
 @lru_cache(None)
@@ -129,24 +140,40 @@ def ghosts(impl, crate):
 
 
 @lru_cache(None)
+def declarations(crate):
+    """The types and traits of a crate, each with the files that may declare it."""
+    files = {}
+    for path in sources(crate):
+        for name in re.findall(TYPE.format(r"(\w+)"), code(path), re.M):
+            files.setdefault(name, []).append(path)
+    return files
+
+
+@lru_cache(None)
 def declared(crate, name):
     """Where a type or trait is declared, and its text: of a type its views, or else its fields."""
-    for path in sources(crate):
+    for path in declarations(crate).get(name, []):
         if found := blocks(path, TYPE.format(name)):
             views = blocks(path, rf"^impl\b[^\n]*\bModel for {name}\b")
             return path, "\n".join(views or found)
     for path in sources(crate):
-        whole = names_of(code(path), crate).get(name, "")
+        whole = names_of(path, crate).get(name, "")
         if whole.startswith("adr_") and whole.split(".")[0] != crate:
             return declared(whole.split(".")[0], whole.rsplit(".", 1)[1])
     return None
 
 
+@lru_cache(None)
+def is_crate(name):
+    return (CRATES / name).is_dir()
+
+
+@lru_cache(None)
 def resolved(whole):
     """The definition that a path names: its file and its name there."""
     parts = whole.split(".")
     crate = parts[0]
-    if not (CRATES / crate).is_dir() or "contracts" in parts or "proofs" in parts:
+    if not is_crate(crate) or "contracts" in parts or "proofs" in parts:
         return None
     if "specs" not in parts or "declared" in parts:
         name = next((p for p in parts[1:] if p[0].isupper()), None)
@@ -163,21 +190,23 @@ def resolved(whole):
 def used(path, text):
     """The definitions that a text of a file uses."""
     crate = path.split("/")[0]
-    names = names_of(code(path), crate)
+    names = names_of(path, crate)
     own = antt(path)[1] if path.endswith(".antt") else {}
     text = USE.sub("", text)
-    for word in set(WORD.findall(text)):
+    words = set(WORD.findall(text))
+    for word in words:
         if word in own:
             yield path, own[word]
         elif word in names:
             yield resolved(names[word])
         elif path.endswith(".rt") and word[0].isupper() and (found := declared(crate, word)):
             yield found[0], word
-    for name, whole in names.items():
-        if "◌" in name and name.strip("◌") in text:
-            yield resolved(whole)
-        elif whole.split(".")[1:2] == ["specs"] and whole.count(".") == 2:
-            yield from (resolved(f"{whole}.{word}") for word in re.findall(rf"\b{name}\.([\w-]+)", text))
+    signs, files = imported(path, crate)
+    for name, sign in signs:
+        if sign in text:
+            yield resolved(names[name])
+    for name in files & words:
+        yield from (resolved(f"{names[name]}.{word}") for word in re.findall(rf"\b{name}\.([\w-]+)", text))
 
 
 def told_by(path, kind, name):
@@ -192,15 +221,15 @@ def told_by(path, kind, name):
     return "\n".join(texts)
 
 
-def reached(roots):
-    """The definitions that these contracts reach: by file and name, their texts."""
-    found = {}
+def reach(roots, found):
+    """Adds the definitions that these contracts reach: by file and name, their texts."""
+    ahead = []
     for place, root in roots:
         told = {(path, root): told_by(path, *root.split()) for path in (sources(place) if "/" not in place else [place])}
         if not any(told.values()):
             sys.exit(f"{place} has no {root}")
         found.update(told)
-    ahead = list(found)
+        ahead += told
     while ahead:
         path, name = ahead.pop()
         for there in used(path, found[path, name]):
@@ -208,7 +237,6 @@ def reached(roots):
                 is_antt = there[0].endswith(".antt")
                 found[there] = antt(there[0])[0][there[1]] if is_antt else declared(there[0].split("/")[0], there[1])[1]
                 ahead.append(there)
-    return found
 
 
 def listed():
@@ -230,39 +258,59 @@ def listed():
     return tables
 
 
-def compared(title, there, table, elsewhere):
-    """Tells what a table lacks of these definitions, and what of it none of them needs. Answers whether it lacks a file."""
-    files = {}
-    for (path, name), text in sorted(there.items()):
-        files.setdefault(path, []).append((name, sum(1 for line in USE.sub("", text).splitlines() if line.strip())))
-    lines = sum(n for told in files.values() for _, n in told)
-    print(f"{title}: {lines} lines of {len(there)} definitions in {len(files)} files, {len(set(files) - elsewhere)} of them its own")
-    for path, told in files.items():
-        if "--names" in sys.argv:
-            print(f"  {path} ({sum(n for _, n in told)}): {', '.join(name for name, _ in told)}")
-    lacks = sorted(set(files) - table - elsewhere)
-    for path in lacks:
-        print(f"  MODEL lacks {path}")
-    for path in sorted(table - set(files)):
-        print(f"  nothing reaches {path}")
-    return bool(lacks)
-
-
-def main():
-    roots, seen, listed_so_far, lacks = [], {}, set(), False
-    parts = (
+def parts():
+    """Of each table: its title, the definitions that it is there for, its files, and those of the tables before."""
+    found, before = {}, set()
+    titles = (
         ("What the theorem says", THEOREM),
         ("What the commands say beyond that", COMMANDS),
         ("What the other claims say beyond that", OTHERS),
     )
-    for (title, more), table in zip(parts, listed(), strict=True):
-        roots = roots + more
+    for (title, roots), table in zip(titles, listed(), strict=True):
+        seen = set(found)
+        reach(roots, found)
         # What begins a search is what is claimed, and no definition.
-        there = {d: t for d, t in reached(roots).items() if " " not in d[1] and d not in seen}
-        lacks = compared(title, there, table, listed_so_far) or lacks
-        seen.update(there)
-        listed_so_far |= table
-    return lacks
+        yield title, {d: t for d, t in found.items() if " " not in d[1] and d not in seen}, table, before
+        before = before | table
+
+
+def lacks(there, table, before):
+    """The files of these definitions that the table doesn't have, nor one before it."""
+    return sorted({path for path, _ in there} - table - before)
+
+
+def lacking():
+    """A line for each file that a table of docs/MODEL.md lacks."""
+    return [
+        f"docs/MODEL.md, what has to be believed: {path} is lacking ({title[:1].lower()}{title[1:]})"
+        for title, there, table, before in parts()
+        for path in lacks(there, table, before)
+    ]
+
+
+def tell(title, there, table, before):
+    """Tells what a table lacks of these definitions, and what of it none of them needs."""
+    files = {}
+    for (path, name), text in sorted(there.items()):
+        files.setdefault(path, []).append((name, sum(1 for line in USE.sub("", text).splitlines() if line.strip())))
+    lines = sum(n for told in files.values() for _, n in told)
+    own = len(set(files) - before)
+    print(f"{title}: {lines} lines of {len(there)} definitions in {len(files)} files, {own} of them its own")
+    for path, told in files.items():
+        if "--names" in sys.argv:
+            print(f"  {path} ({sum(n for _, n in told)}): {', '.join(name for name, _ in told)}")
+    for path in lacks(there, table, before):
+        print(f"  MODEL lacks {path}")
+    for path in sorted(table - set(files)):
+        print(f"  nothing reaches {path}")
+
+
+def main():
+    some = False
+    for part in parts():
+        tell(*part)
+        some = some or bool(lacks(*part[1:]))
+    return some
 
 
 if __name__ == "__main__":

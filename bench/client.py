@@ -7,6 +7,7 @@ bench/client.py examples       reads and writes the examples of docs/FORMATS.md,
 Identifiers are numbers, and messages the tuples of bench/second_reading.py. What the page refuses is raised: `Malformed` with the
 place of the first fault in a message, `WrongVersion`, or `BadPeer` where what came is no frame, or none that is due.
 """
+import itertools
 import os
 import random
 import socket
@@ -162,13 +163,27 @@ class Reader:
             vector[inv], last = self.usn(), inv
         return vector
 
-    def head(self, magic):
+    def vector2(self):
+        """A vector, and the times of its cursors that are known."""
+        vector, times, last = {}, {}, -1
+        for _ in range(self.number(4, 0, CURSORS_MOST)):
+            place, inv = self.at, self.id()
+            if inv <= last:
+                raise Malformed(place)
+            vector[inv], time, last = self.usn(), self.number(8), inv
+            if time > 0:
+                times[inv] = time
+        return vector, times
+
+    def head(self, magic, *known):
+        """The version of a message, which is one of those that are known."""
         if self.raw[:4] != magic:
             raise Malformed(0)
         self.at = 4
         version = self.number(2)
-        if version != 1:
+        if version not in known:
             raise WrongVersion(version)
+        return version
 
     def end(self):
         if self.at < len(self.raw):
@@ -239,35 +254,47 @@ def vector_bytes(vector):
     return number_bytes(len(vector), 4) + b"".join(id_bytes(inv) + number_bytes(vector[inv], 8) for inv in sorted(vector))
 
 
+def vector2_bytes(vector, times):
+    cursors = (id_bytes(inv) + number_bytes(vector[inv], 8) + number_bytes(times.get(inv, 0), 8) for inv in sorted(vector))
+    return number_bytes(len(vector), 4) + b"".join(cursors)
+
+
 # --- messages -------------------------------------------------------------------------------------------------------
 def encode_request(request):
-    return (b"ADRQ\0\1" + id_bytes(request.dest) + id_bytes(request.source) + id_bytes(request.inv) + mark_bytes(request.mark)
+    return (b"ADRQ" + number_bytes(request.version, 2) + id_bytes(request.dest) + id_bytes(request.source) + id_bytes(request.inv) + mark_bytes(request.mark)
             + number_bytes(request.schema, 4) + number_bytes(request.max, 4) + vector_bytes(request.vector))
 
 
 def decode_request(raw):
     reader = Reader(raw)
-    reader.head(b"ADRQ")
-    request = Request(reader.id(), reader.id(), reader.id(), reader.mark(), reader.number(4), reader.number(4, 1), reader.vector())
+    version = reader.head(b"ADRQ", 1, 2)
+    request = Request(reader.id(), reader.id(), reader.id(), reader.mark(), reader.number(4), reader.number(4, 1), reader.vector(), version)
     reader.end()
     return request
 
 
+def encode_last(reply):
+    if reply.last is None:
+        return b"\0"
+    return b"\1" + (vector_bytes(reply.last) if reply.version == 1 else vector2_bytes(reply.last, reply.times))
+
+
 def encode_reply(reply):
-    last = b"\0" if reply.last is None else b"\1" + vector_bytes(reply.last)
-    return (b"ADRP\0\1" + id_bytes(reply.dest) + id_bytes(reply.source) + id_bytes(reply.inv) + mark_bytes(reply.start)
-            + mark_bytes(reply.to) + number_bytes(reply.schema, 4) + vector_bytes(reply.asked) + last
+    return (b"ADRP" + number_bytes(reply.version, 2) + id_bytes(reply.dest) + id_bytes(reply.source) + id_bytes(reply.inv) + mark_bytes(reply.start)
+            + mark_bytes(reply.to) + number_bytes(reply.schema, 4) + vector_bytes(reply.asked) + encode_last(reply)
             + number_bytes(len(reply.items), 4) + b"".join(item_bytes(item) for item in reply.items))
 
 
 def decode_reply(raw):
     reader = Reader(raw)
-    reader.head(b"ADRP")
+    version = reader.head(b"ADRP", 1, 2)
     head = (reader.id(), reader.id(), reader.id(), reader.ordered_mark(), reader.ordered_mark(), reader.number(4), reader.vector())
-    last = reader.vector() if reader.flag() else None
+    last, times = None, {}
+    if reader.flag():
+        last, times = (reader.vector(), {}) if version == 1 else reader.vector2()
     items = [reader.item() for _ in range(reader.number(4))]
     reader.end()
-    return Reply(*head, last, items)
+    return Reply(*head, last, items, version, times)
 
 
 # the fields of each refusal: their names in an answer, and whether one is an identifier
@@ -283,7 +310,7 @@ def fields_of(number):
 
 def decode_refusal(raw):
     reader = Reader(raw)
-    reader.head(b"ADRF")
+    reader.head(b"ADRF", 1)
     place, number = reader.at, reader.number(1)
     if number == 22:
         reader.number(1, 5, 5)
@@ -307,7 +334,7 @@ def encode_refusal(refusal):
 
 
 # --- lines ----------------------------------------------------------------------------------------------------------
-DEEDS = ("add", "modify", "rename", "delete", "link", "unlink", "collect")
+DEEDS = ("add", "modify", "rename", "delete", "link", "unlink", "collect", "upgrade")
 
 
 def deed_of(line):
@@ -419,12 +446,16 @@ class Client(Connection):
         return answer.decode()
 
 
-def pull_all(client, dsa, most=1000):
-    """All that a node has: a controller in memory that asks under this identifier, from nothing to the last reply."""
+def pull_all(client, dsa, most=1000, version=2):
+    """All that a node has: a controller in memory that asks under this identifier, from nothing to the last reply, and changes
+    over to schema 2 where the node has."""
     partner = int.from_bytes(client.greet(), "big")
     state = rules.State(dsa, random.getrandbits(128))
     while True:
-        reply = client.ask(rules.ask(state, partner, most))
+        reply = client.ask(rules.ask(state, partner, most, version))
+        if isinstance(reply, Refusal) and reply.number == 31 and state.schema == 1:
+            state = rules.upgrade(state)
+            continue
         if isinstance(reply, Refusal):
             raise reply
         state, _ = rules.take(state, reply)
@@ -441,20 +472,27 @@ def shown(state, name):
 # --- the page's examples --------------------------------------------------------------------------------------------
 def example_messages():
     """Each message of the page with its bytes, and some of every form."""
-    asked = Request(0xb0, 0xa0, 0, rules.ZERO, 1, 10, {})
+    asked = Request(0xb0, 0xa0, 0, rules.ZERO, 1, 10, {}, 1)
     mismatch = Refusal(31, "SchemaMismatch", ("mine", 1), ("theirs", 2))
     page = bytes.fromhex("41445251 0001 000000000000000000000000000000b0 000000000000000000000000000000a0" + "00" * 16 + "00" * 24
                          + "00000001 0000000a 00000000")
     yield asked, page, encode_request, decode_request
     yield mismatch, bytes.fromhex("41445246 0001 1f 00000001 00000002"), encode_refusal, decode_refusal
-    yield asked._replace(vector={3: 1, 7: USN_MOST}, mark=Mark(1, 2, 3)), None, encode_request, decode_request
+    yield asked._replace(version=2), page[:5] + b"\2" + page[6:], encode_request, decode_request
+    for version in (1, 2):
+        yield asked._replace(vector={3: 1, 7: USN_MOST}, mark=Mark(1, 2, 3), version=version), None, encode_request, decode_request
     stamp = Stamp(VERSION_MOST, 2**64 - 1, 7, USN_MOST)
     values = [("text", "ä"), ("num", -5), ("flag", True), ("oct", "00ff"), ("ref", 2**128 - 1)]
     items = [("object", Oid(16, 7, 1), [(1, stamp, 5), (2, stamp, ("Ann", 1)), (3, stamp, None), (10, stamp, values), (11, stamp, [])]),
              ("link", (Oid(16, 7, 1), 32, Oid(17, 7, 2)), (9, stamp), False)]
-    for last in (None, {}, {7: 5}):
-        for some in ([], items):
-            yield Reply(1, 2, 3, Mark(5, 4, 6), Mark(6, 6, 6), 1, {1: 1}, last, some), None, encode_reply, decode_reply
+    told = [(1, None, {}), (1, {}, {}), (1, {7: 5}, {}), (2, None, {}), (2, {}, {}), (2, {7: 5}, {}), (2, {3: 1, 7: 5}, {7: 2**64 - 1})]
+    for (version, last, times), some in itertools.product(told, ([], items)):
+        yield Reply(1, 2, 3, Mark(5, 4, 6), Mark(6, 6, 6), 1, {1: 1}, last, some, version, times), None, encode_reply, decode_reply
+    # the last, empty reply of a controller with one write, made at the second 7
+    last = Reply(0xb0, 0xa0, 0xa1, rules.ZERO, Mark(1, 1, 1), 2, {}, {0xa1: 1}, [], 2, {0xa1: 7})
+    page = bytes.fromhex("41445250 0002" + "00" * 15 + "b0" + "00" * 15 + "a0" + "00" * 15 + "a1" + "00" * 24 + 3 * "0000000000000001"
+                         + "00000002 00000000 01 00000001" + "00" * 15 + "a1 0000000000000001 0000000000000007 00000000")
+    yield last, page, encode_reply, decode_reply
     yield Refusal(22, "Full", ("table", "Log"), ("limit", 2**33)), None, encode_refusal, decode_refusal
     yield Refusal(23, "Quarantined"), None, encode_refusal, decode_refusal
     yield Refusal(30, "WrongController", ("mine", "#a0"), ("asked", "#b0")), None, encode_refusal, decode_refusal
@@ -466,6 +504,17 @@ def example_messages():
 
 def told(message):
     return message.text() if isinstance(message, Refusal) else message
+
+
+def is_unknown(decode, raw, version):
+    """Whether a message is refused as one of another version."""
+    try:
+        decode(raw[:4] + number_bytes(version, 2) + raw[6:])
+    except WrongVersion as fault:
+        return fault.found == version
+    except Malformed:
+        return False
+    return False
 
 
 def is_refused(decode, raw, place):
@@ -487,6 +536,7 @@ def check_examples():
         assert told(decode(raw)) == told(message), message
         assert all(is_refused(decode, raw[:cut], cut) for cut in range(len(raw))), message
         assert is_refused(decode, raw + b"x", len(raw)), message
+        assert all(is_unknown(decode, raw, version) for version in (0, 3, 2**16 - 1)), message
         count += 1
     greeting, identity = bytes.fromhex("00000001 06"), bytes.fromhex("00000011 07 000000000000000000000000000000a0")
     assert frame(GREETING) == greeting and frame(IDENTITY, id_bytes(0xa0)) == identity

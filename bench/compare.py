@@ -12,7 +12,7 @@ import second_reading as model
 
 BASE = {'time': 5, 'add': 10, 'modify': 7, 'rename': 5, 'delete': 4, 'link': 6, 'unlink': 3, 'ask': 4, 'serve': 4, 'deliver': 5,
         'pull': 10, 'cycle': 9, 'show': 2, 'vector': 1, 'marks': 1, 'meta': 3, 'stop': 0, 'stop after': 0, 'fail after': 0, 'start': 0,
-        'collect': 0, 'backup': 0, 'restore': 0, 'install': 0, 'snapshot': 0, 'rollback': 0, 'controller': 0}
+        'collect': 0, 'backup': 0, 'restore': 0, 'install': 0, 'snapshot': 0, 'rollback': 0, 'controller': 0, 'upgrade': 0, 'revive': 0}
 FAULTS = {'stop': 1, 'stop after': 3, 'fail after': 3, 'start': 5}
 PROFILES = {
     'plain': {},
@@ -21,12 +21,16 @@ PROFILES = {
     'collect': {'collect': 5, 'delete': 9, 'controller': 1, 'time': 8},
     'both': {'collect': 5, 'delete': 9, 'backup': 3, 'restore': 2, 'install': 1, 'time': 8},
     'rollback': {'snapshot': 4, 'rollback': 3, 'restore': 1, 'backup': 2},
-    'all': dict(FAULTS, collect=4, delete=7, backup=3, restore=2, install=1, snapshot=3, rollback=2, controller=1, time=7),
-    'faults': dict(FAULTS, collect=3, delete=5, backup=2, restore=1, install=1, snapshot=2, rollback=1),
+    'all': dict(FAULTS, collect=4, delete=7, backup=3, restore=2, install=1, snapshot=3, rollback=2, controller=1, time=7, upgrade=0.5, revive=3),
+    'faults': dict(FAULTS, collect=3, delete=5, backup=2, restore=1, install=1, snapshot=2, rollback=1, upgrade=0.3, revive=2),
     'rings': {'ring': 12},
+    'times': {'time': 12, 'ask': 7, 'serve': 7, 'deliver': 8, 'vector': 6, 'backup': 1, 'restore': 1, 'install': 1},
+    'schemas': {'upgrade': 2, 'add': 14, 'modify': 9, 'link': 9, 'backup': 2, 'restore': 1, 'install': 1, 'revive': 3},
+    'revivals': {'backup': 4, 'revive': 16, 'delete': 12, 'link': 12, 'show': 3, 'collect': 0.7, 'restore': 0.5, 'upgrade': 0.15},
+    'revivals behind': dict(FAULTS, backup=4, revive=14, delete=9, link=9, snapshot=3, rollback=3, restore=1, install=1, collect=1, upgrade=0.3),
     'logs': {'time': 1, 'add': 6, 'modify': 100, 'rename': 2, 'delete': 1, 'link': 1, 'unlink': 1, 'ask': 0, 'serve': 0, 'deliver': 0,
              'pull': 2, 'cycle': 3, 'show': 0, 'vector': 0, 'marks': 0, 'meta': 0, 'stop': 1, 'stop after': 1, 'fail after': 1, 'start': 6,
-             'snapshot': 0.7, 'rollback': 0.3, 'backup': 0.7, 'restore': 0.3, 'collect': 0.3},
+             'snapshot': 0.7, 'rollback': 0.3, 'backup': 0.7, 'restore': 0.3, 'collect': 0.3, 'upgrade': 0.2, 'revive': 0.5},
 }
 # the bytes of a record with a long description, nearly
 LONG_RECORD = 2200
@@ -113,7 +117,7 @@ class Maker:
             return 'add %s #%x container #1 "long"%s' % (name, self.guids[0], self.long_description())
         return 'modify %s #%x%s' % (name, self.r.choice(live).guid, self.long_description())
 
-    def sets(self, class_name):
+    def sets(self, class_name, newest):
         r = self.r
         must = {'user': ' sAMAccountName="%s"' % r.choice('ab'), 'computer': ' sAMAccountName="c"', 'group': ' groupType=%d' % r.choice((2, -3))}
         out = must.get(class_name, '')
@@ -125,15 +129,19 @@ class Maker:
             out += ' description=' + ','.join(r.sample(['"d"', '"e"', '"f"'], r.randint(1, 2)))
         if class_name == 'user' and r.random() < 0.2:
             out += ' mail="%s"' % r.choice('mn')
+        if class_name in ('user', 'contact') and r.random() < (0.3 if newest else 0.01):
+            out += ' title="%s"' % r.choice('tu')
         return out
 
-    def some_sets(self):
+    def some_sets(self, newest):
         r = self.r
         pool = ['description="d%d"' % r.randint(0, 3), 'description=', 'mail="m%d"' % r.randint(0, 2), 'mail=', 'disabled=true', 'disabled=false',
                 'seeAlso=%s' % self.guid(), 'groupType=%d' % r.randint(-2, 2), 'sAMAccountName="s%d"' % r.randint(0, 2), 'location="l"',
                 'thumbprint=x00%02x' % r.randint(0, 255), 'employeeNumber=%d' % r.randint(0, 5)]
+        if r.random() < (0.5 if newest else 0.02):
+            pool += ['title="t%d"' % r.randint(0, 2), 'title=', 'department="d%d"' % r.randint(0, 1), 'accountExpires=%d' % r.choice((0, 7, -1, 2**63 - 1))]
         if r.random() < 0.03:
-            pool = ['%99="n"', 'name="q"', 'member=#10', 'sAMAccountName=', 'employeeNumber="7"', 'description="d","d"']
+            pool = ['managedBy=#10', '%99="n"', 'name="q"', 'member=#10', 'sAMAccountName=', 'employeeNumber="7"', 'description="d","d"']
         chosen = {}
         for text in r.sample(pool, 1 if r.random() < 0.7 else 2):
             chosen[text.split('=')[0]] = text
@@ -142,15 +150,16 @@ class Maker:
     def known_sets(self, name, guid):
         """Attributes that the object's class may have, most often."""
         controller = self.world.controllers.get(name)
+        newest = controller is not None and controller.read.schema == 2
         if controller is None or self.r.random() < 0.1:
-            return self.some_sets()
+            return self.some_sets(newest)
         oid = next((oid for oid, rows in controller.read.objects.items() if '#%x' % oid.guid == guid and 3 not in rows), None)
         if oid is None:
-            return self.some_sets()
-        number = controller.read.objects[oid][1].content
-        allowed = model.MUST[number] + model.MAY[number]
+            return self.some_sets(newest)
+        number, schema = controller.read.objects[oid][1].content, controller.read.table()
+        allowed = schema.must[number] + schema.may[number]
         for _ in range(20):
-            text = self.some_sets()
+            text = self.some_sets(newest)
             if all(model.ATTR_NUMBER.get(part.split('=')[0]) in allowed for part in text.split(' ')):
                 return text
         return 'description="d"'
@@ -172,12 +181,15 @@ class Maker:
             kind = r.choice(('user', 'group', 'container', 'container', 'organizationalUnit', 'organizationalUnit', 'computer'))
             guid = r.choice(self.guids) if r.random() < 0.9 else r.choice((1, 2, 0x99))
             controller = self.world.controllers.get(a)
+            newest = controller is not None and controller.read.schema == 2
+            if r.random() < (0.25 if newest else 0.01):
+                kind = 'contact'
             if controller is not None and r.random() < 0.6:
                 free = [g for g in self.guids if not any(oid.guid == g for oid in controller.read.objects)]
                 if free:
                     guid = r.choice(free)
             text = self.text() if r.random() < 0.98 else r.choice(('""', '" x"', '"x "', '"a\\0ab"', '"%s"' % ('n' * 129)))
-            return 'add %s #%x %s %s %s%s' % (a, guid, kind, self.parent(a), text, self.sets(kind))
+            return 'add %s #%x %s %s %s%s' % (a, guid, kind, self.parent(a), text, self.sets(kind, newest))
         if verb == 'modify' and self.long and r.random() < 0.95:
             return self.long_write(a)
         if verb == 'modify':
@@ -193,16 +205,19 @@ class Maker:
                 links = [key for key, row in controller.read.links.items() if row.present == (verb == 'unlink')]
                 if links and (verb == 'unlink' or r.random() < 0.3):
                     start, attr, end = r.choice(links)
-                    return '%s %s #%x %s #%x' % (verb, a, start.guid, model.ATTRS[attr], end.guid)
-                live = [(oid, rows) for oid, rows in controller.read.objects.items() if 3 not in rows and rows[1].content in (3, 5, 6)]
-                if live:
-                    oid, rows = r.choice(live)
-                    return '%s %s #%x %s %s' % (verb, a, oid.guid, 'member' if rows[1].content == 6 else 'manager', self.held_guid(a))
-            return '%s %s %s %s %s' % (verb, a, self.held_guid(a), r.choice(('member', 'manager', 'member', 'mail', 'memberOf')), self.held_guid(a))
+                    return '%s %s #%x %s #%x' % (verb, a, start.guid, model.show_attr(attr), end.guid)
+                schema = controller.read.table()
+                links = [(oid, attr) for oid, rows in controller.read.objects.items() if 3 not in rows
+                         for attr in schema.may[rows[1].content] if attr in schema.back]
+                if links:
+                    oid, attr = r.choice(links)
+                    return '%s %s #%x %s %s' % (verb, a, oid.guid, model.show_attr(attr), self.held_guid(a))
+            attr = r.choice(('member', 'manager', 'member', 'mail', 'memberOf', 'managedBy', 'managedObjects', 'title'))
+            return '%s %s %s %s %s' % (verb, a, self.held_guid(a), attr, self.held_guid(a))
         if verb == 'ask':
             bound = self.new('q')
             self.bound['q'].append(bound)
-            return 'ask %s %s %d as %s' % (a, b, r.choice(self.most), bound)
+            return 'ask %s %s %d as %s%s' % (a, b, r.choice(self.most), bound, ' v1' if r.random() < 0.3 else '')
         if verb == 'serve':
             request = self.old('q')
             if request is None:
@@ -264,7 +279,38 @@ class Maker:
         if verb == 'rollback':
             snapshot = self.old('s')
             return snapshot and 'rollback %s %s' % (a, snapshot)
+        if verb == 'upgrade':
+            return 'upgrade ' + a
+        if verb == 'revive':
+            image = self.old('i')
+            if image is not None and r.random() < 0.8 and not self.lost(a, image):
+                images = [other for other in self.bound['i'] if self.lost(a, other)]
+                image = r.choice(images) if images else None
+            if image is None:
+                return self.line(r.choice(('backup', 'delete', 'add', 'link'))) if r.random() < 0.9 else None
+            return self.revival(a, image)
         raise ValueError(verb)
+
+    def lost(self, name, image):
+        """The live objects of an image that aren't live at a controller, with their names."""
+        controller, archive = self.world.controllers.get(name), self.world.images.get(image)
+        if controller is None or archive is None:
+            return {}
+        held = {oid.guid for oid, rows in controller.read.objects.items() if 3 not in rows}
+        return {oid.guid: rows[2].content for oid, rows in archive.objects.items() if 3 not in rows and oid.guid not in held}
+
+    def revival(self, name, image):
+        """A revival out of an image, most often of an object that is live there and isn't at the controller."""
+        r, lost = self.r, self.lost(name, image)
+        guid, parent, text = self.guid(), self.parent(name), self.text()
+        if lost and r.random() < 0.9:
+            guid, (old_text, old_parent) = r.choice(sorted(lost.items()))
+            guid = '#%x' % guid
+            text = model.show_text(old_text) if r.random() < 0.7 else text
+            parent = '#%x' % old_parent if r.random() < 0.4 else parent
+        if r.random() < 0.02:
+            text = r.choice(('""', '" x"', '"%s"' % ('n' * 129)))
+        return 'revive %s %s %s %s %s' % (name, guid, image, parent, text)
 
     def ring(self, names):
         """A ring of some of these, most often of those that are up."""
@@ -307,8 +353,15 @@ class Maker:
         r, has = self.r, {verb for verb, weight in self.weights.items() if weight > 0}
         a, b = self.two()
         kinds = ['ring'] * 3 * ('ring' in has) + ['fork'] * 2 * ('rollback' in has) + ['late'] * ('restore' in has) + ['dead'] * 2 * ('collect' in has) + ['spread']
+        kinds += ['upgrades'] * ('upgrade' in has) + ['revived'] * 3 * ('revive' in has) + ['born twice'] * 2 * ({'revive', 'rollback'} <= has)
         kind = r.choice(kinds)
-        if kind == 'ring':
+        if kind == 'upgrades':
+            self.upgrades(a, b)
+        elif kind == 'revived':
+            self.revived(a, b)
+        elif kind == 'born twice':
+            self.born_twice(a, b)
+        elif kind == 'ring':
             for name in self.names:
                 if self.r.random() < 0.9:
                     self.emit('start ' + name)
@@ -355,6 +408,92 @@ class Maker:
             self.emit('collect %s %d' % (a, r.choice((0, 5, 20))))
             if r.random() < 0.5:
                 self.emit('cycle %s %s 10' % (a, b))
+
+    def upgrades(self, a, b):
+        """All take the second schema, while a reply or a request may be under way."""
+        r = self.r
+        self.bind('q', 'ask %s %s %d as %%s' % (a, b, r.choice(self.most)))
+        if r.random() < 0.5:
+            self.bind('r', 'serve %s %s as %%s' % (b, self.bound['q'][-1]))
+        for name in self.names:
+            if r.random() < 0.9:
+                self.emit('upgrade ' + name)
+        if r.random() < 0.5:
+            self.bind('r', 'serve %s %s as %%s' % (b, self.bound['q'][-1]))
+        if self.bound['r']:
+            self.emit('deliver %s %s' % (a, self.bound['r'][-1]))
+
+    def revived(self, a, b):
+        """A backup, deletions, and revivals at one or the other, under a former child too."""
+        r = self.r
+        if r.random() < 0.2:
+            self.former_child(a, b)
+            return
+        for _ in range(r.randint(0, 3)):
+            self.some(r.choice(('link', 'link', 'add')))
+        self.bind('i', 'backup %s as %%s' % a)
+        if r.random() < 0.5:
+            self.emit('cycle %s %s 10' % (b, a))
+            self.some('add')
+        for _ in range(r.randint(1, 3)):
+            self.emit('delete %s %s' % (a, self.held_guid(a)))
+        for dest, source in r.choice(((), ((b, a),), ((b, a), (a, b)))):
+            self.emit('cycle %s %s 10' % (dest, source))
+        for _ in range(r.randint(1, 3)):
+            self.emit(self.revival(r.choice((a, a, b)), self.bound['i'][-1]))
+        for dest, source in r.choice(((), ((b, a),), ((b, a), (a, b)))):
+            self.emit('cycle %s %s 10' % (dest, source))
+        self.emit('show ' + a)
+
+    def former_child(self, a, b):
+        """One deletes a parent while the other adds below it, and revives it under what was added, or what stands below that."""
+        free = [guid for guid in self.guids if not any(oid.guid == guid for name in (a, b) if name in self.world.controllers
+                                                       for oid in self.world.controllers[name].read.objects)]
+        if a == b or len(free) < 2:
+            return
+        parent, child = self.r.sample(free, 2)
+        text = self.text()
+        self.emit('add %s #%x container #1 %s' % (a, parent, text))
+        self.emit('cycle %s %s 10000' % (b, a))
+        self.emit('add %s #%x container #%x %s' % (b, child, parent, self.text()))
+        self.bind('i', 'backup %s as %%s' % a)
+        self.emit('delete %s #%x' % (a, parent))
+        self.emit('cycle %s %s 10000' % (a, b))
+        for _ in range(2):
+            self.emit('revive %s #%x %s %s %s' % (a, parent, self.bound['i'][-1], self.r.choice(('#%x' % child, self.parent(a))), text))
+
+    def born_twice(self, a, b):
+        """A disk is put back, and its partner brings what a revival wrote there, at the number that the next one would take."""
+        r, controller = self.r, self.world.controllers.get(a)
+        if a == b or controller is None:
+            return
+        for name in (a, b):
+            self.emit('start ' + name)
+        self.emit('cycle %s %s 10000' % (b, a))
+        self.bind('i', 'backup %s as %%s' % a)
+        image = self.bound['i'][-1]
+        live = sorted(oid.guid for oid, rows in controller.read.objects.items() if 3 not in rows)
+        if len(live) < 2:
+            return
+        other, guid = ('#%x' % one for one in r.sample(live, 2))
+        self.emit('delete %s %s' % (a, guid))
+        self.emit('cycle %s %s 10000' % (b, a))
+        self.bind('s', 'snapshot %s as %%s' % a)
+        for text in ('"d1"', '"d2"')[:r.choice((2, 2, 2, 1))]:
+            self.emit('modify %s %s description=%s' % (a, other, text))
+        self.emit('revive %s %s %s #1 "again"' % (a, guid, image))
+        by_link = r.random() < 0.5
+        if not by_link:
+            self.emit('delete %s %s' % (a, guid))
+        self.emit('modify %s %s description="d3"' % (a, other if r.random() < 0.1 else guid))
+        self.some('add')
+        self.emit('cycle %s %s 10000' % (b, a))
+        if by_link:
+            self.emit('modify %s %s description="d4"' % (b, guid))
+        self.emit('rollback %s %s' % (a, self.bound['s'][-1]))
+        for _ in range(r.choice((2, 2, 2, 1, 3))):
+            self.emit('pull %s %s 1' % (a, b))
+        self.emit('revive %s %s %s #1 "again"' % (a, guid, image))
 
     def bind(self, kind, form):
         bound = self.new(kind)

@@ -39,6 +39,7 @@ import traceback
 sys.path.insert(0, os.path.dirname(os.path.abspath(__file__)))
 import client as peer
 import compare
+import read_log
 import second_reading as rules
 
 TOP = os.path.dirname(os.path.dirname(os.path.abspath(__file__)))
@@ -99,6 +100,12 @@ class Node:
 
     def path(self, name):
         return f"{self.folder}/{name}.adr"
+
+    def times(self, name):
+        """The times that a node's log tells, by the second reader of logs."""
+        with open(self.path(name), "rb") as file:
+            state, _ = read_log.read_log(file.read())
+        return {int.from_bytes(inv, "big"): time for inv, time in state.times.items()}
 
     def identifiers(self, name):
         """The numbers of a node's own identifier and of its database's."""
@@ -453,6 +460,35 @@ def two_nodes(node):
     server.pull("London", 0, b"deliver London: ok items=2 wrote=2 usn=11\n")
     server.finish()
     equal_exports(node, "London", "Paris")
+    both_change_over(node)
+
+
+def both_change_over(node):
+    """Two nodes take the second schema, one after the other; in between each refuses the other."""
+    server = Server(node, "London", 4)
+    server.send(b"add #20 contact #1 \"Bo\"\n", 9, b"add: refused 1 UnknownClass\n")
+    server.send(b"upgrade\nupgrade\n", 9, b"upgrade: ok\nupgrade: refused 52 SchemaThere number=2\n")
+    server.send(b"add #20 contact #1 \"Bo\" title=\"Dr\"\nlink #10 managedBy #11\n", 0, b"add: ok usn=12\nlink: ok usn=13\n")
+    server.pull("Paris", 9, b"refused 31 SchemaMismatch mine=2 theirs=1\n")
+    server.finish()
+    server = Server(node, "Paris", 2)
+    server.pull("London", 9, b"refused 31 SchemaMismatch mine=1 theirs=2\n")
+    server.send(b"upgrade\n", 0, b"upgrade: ok\n")
+    server.finish()
+    server = Server(node, "London", 2)
+    before = int(time.time())
+    server.pull("Paris", 0, b"deliver Paris: ok items=2 wrote=2 usn=8\n")
+    after = int(time.time())
+    with server.client() as client:
+        state = peer.pull_all(client, 0xc0, 3)
+        server.due.append((f"{client.said} end",))
+    server.finish()
+    check("a client changes over too", state.schema == 2)
+    equal_exports(node, "London", "Paris")
+    entry = node.view("Paris")[guid_text(0x20)]
+    check("a contact comes over", (entry["class"], entry["values"]) == ("contact", {"title": ["Dr"]}), entry)
+    told = node.times("Paris").get(node.identifiers("London")[1], 0)
+    check("a pull keeps when its partner made the last reply", before <= told <= after, (before, told, after))
 
 
 def failing_streams(node, server):
@@ -526,7 +562,7 @@ class Both:
         self.maker = compare.Maker(chance.random(), "plain")
         self.maker.world = self.world
         self.verbs = ["add"] * 6 + ["modify"] * 6 + ["rename"] * 4 + ["delete"] * 3 + ["link"] * 4 + ["unlink"] * 2
-        self.verbs += ["collect"] * 2 if collects else []
+        self.verbs += ["collect"] * 2 + ["upgrade"] if collects else []
 
     def state(self, name):
         return self.world.controllers[name].read
@@ -541,9 +577,11 @@ class Both:
         verb = self.chance.choice(self.verbs)
         self.maker.names = [name]
         line = f"collect {name} {self.chance.choice((0, 0, 100000))}" if verb == "collect" else self.maker.line(verb)
+        if verb == "upgrade" and self.chance.random() < 0.9:
+            return None
         if line is None:
             return None
-        line = line.replace(f" {name} ", " ", 1).encode()
+        line = re.sub(f" {name}(?= |$)", "", line, count=1).encode()
         return self.spoiled_line(line) if self.chance.random() < 0.1 else line
 
     def moment(self, client, name, before, after, answer):
@@ -554,7 +592,8 @@ class Both:
         vector = state.vector()
         vector[state.inv] = usn - 1
         mark = rules.Mark(usn - 1, usn - 1, usn - 1)
-        reply = client.ask(rules.Request(1, state.dsa, state.inv, mark, 1, 10, {inv: seen for inv, seen in vector.items() if seen}))
+        known = {inv: seen for inv, seen in vector.items() if seen}
+        reply = client.ask(rules.Request(1, state.dsa, state.inv, mark, state.schema, 10, known, self.chance.choice((1, 2))))
         stamps = [row[1] for item in reply.items if item[0] == "object" for row in item[2]]
         stamps += [item[2][1] for item in reply.items if item[0] == "link"]
         return next(stamp.time for stamp in stamps if (stamp.inv, stamp.usn) == (state.inv, usn))
@@ -585,14 +624,21 @@ class Both:
         mark = rules.Mark(numbers[1], numbers[0], numbers[2]) if chance.random() < 0.9 else rules.Mark(*numbers)
         source = state.dsa if chance.random() < 0.95 else chance.getrandbits(128)
         inv = state.inv if chance.random() < 0.8 else chance.choice((0, 1))
-        schema = 1 if chance.random() < 0.95 else chance.choice((0, 2, 2**32 - 1))
+        schema = state.schema if chance.random() < 0.95 else chance.choice((0, 1, 2, 3, 2**32 - 1))
         most = chance.choice((1, 2, 3, 10, 1000, 2**32 - 1))
-        return rules.Request(chance.getrandbits(128), source, inv, mark if chance.random() < 0.7 else rules.ZERO, schema, most, vector)
+        mark = mark if chance.random() < 0.7 else rules.ZERO
+        return rules.Request(chance.getrandbits(128), source, inv, mark, schema, most, vector, chance.choice((1, 2, 2)))
 
     def ask(self, client, name, request):
-        self.compare_answer(name, request, client.ask(request))
+        before = int(time.time())
+        self.compare_answer(name, request, client.ask(request), before)
 
-    def compare_answer(self, name, request, answer):
+    def compare_answer(self, name, request, answer, before):
+        """An answer that came since this second is that of the rules. What moment it was, a last reply tells of its own cursor."""
+        self.world.now = after = int(time.time())
+        if isinstance(answer, rules.Reply):
+            self.world.now = answer.times.get(self.state(name).inv, after)
+            check("a reply tells the second at which it was made", before <= self.world.now <= after, (before, self.world.now, after))
         text, reply = self.world.do_serve(name, lambda: request)
         if reply is None:
             check("a refusal is that of the rules", isinstance(answer, rules.Refusal) and answer.text() == text, (request, answer, text))
@@ -615,8 +661,31 @@ class Both:
                 return "".join(lines).encode(), 0, len(lines)
 
     def pull(self, server, dest):
+        self.world.now = before = int(time.time())
         lines, status, requests = self.due_of_pull(dest, server.name)
         server.pull(dest, status, lines, requests)
+        self.compare_times(dest, server.name, before)
+
+    def compare_times(self, dest, source, before):
+        """The times in a node's log are those of the rules. When its partner made the last reply since this second, the log tells."""
+        told, own, kept = self.node.times(dest), self.state(source).inv, self.state(dest).times
+        if told.get(own) != kept.get(own):
+            check("a pull keeps when its partner made the last reply", before <= told.get(own, 0) <= int(time.time()), (before, told.get(own)))
+            kept[own] = told.get(own, 0)
+        check("the times in a log are those of the rules", told == kept, (dest, told, kept))
+
+    def change_over(self):
+        """Where one has taken the second schema, so does the other."""
+        if {self.state(name).schema for name in self.names} == {1}:
+            return
+        for name in self.names:
+            server = Server(self.node, name, 1)
+            with server.client() as client:
+                due = self.world.step(("upgrade", name))[0].replace(f" {name}:", ":", 1)
+                answer = client.line("upgrade")
+                check("an upgrade is answered by the rules", answer == due, (answer, due))
+                server.due.append(("1 end",))
+            server.finish()
 
     def compare_shown(self):
         for name in self.names:
@@ -643,7 +712,7 @@ class Both:
     def compare_pull_of_client(self, client, source):
         """A client that pulls all has the directory, but from a node that has forgotten something."""
         try:
-            state = peer.pull_all(client, self.chance.getrandbits(128), self.chance.choice((1, 2, 3, 1000)))
+            state = peer.pull_all(client, self.chance.getrandbits(128), self.chance.choice((1, 2, 3, 1000)), self.chance.choice((1, 2)))
         except rules.Refusal as refusal:
             check("a fresh client is refused only where something was collected", self.state(source).purged and refusal.number == 32, refusal.text())
             return
@@ -663,6 +732,7 @@ def compared(program, chance, rounds):
             both = Both(Node(program, folder), chance, collects=collects)
             for _ in range(rounds):
                 both.round(chance.randint(5, 25))
+            both.change_over()
             for _ in range(2):
                 for dest, source in (("London", "Paris"), ("Paris", "London")):
                     server = Server(both.node, source, 1)
@@ -690,7 +760,7 @@ def changed(chance, reply, state):
     """A reply with another field, or other items."""
     items, other = list(reply.items), chance.getrandbits(128)
     place = chance.randrange(len(items)) if items else 0
-    kind = chance.choice(("dest", "inv", "start", "schema", "asked", "last", "own", "missing", "twice", "turned") + OF_ROWS)
+    kind = chance.choice(("dest", "inv", "start", "schema", "asked", "last", "own", "version", "times", "missing", "twice", "turned") + OF_ROWS)
     if kind in ("dest", "inv"):
         return reply._replace(**{kind: other})
     if kind == "start":
@@ -703,6 +773,10 @@ def changed(chance, reply, state):
         return reply._replace(last=chance.choice((None, {other: 5})))
     if kind == "own":
         return reply._replace(last={state.inv: chance.choice((1, 2**63 - 1))})
+    if kind == "version":
+        return reply._replace(version=3 - reply.version)
+    if kind == "times":
+        return reply._replace(times={inv: chance.choice((0, 1, chance.getrandbits(40), 2**64 - 1)) for inv in reply.last or {}})
     if not items:
         return reply
     if kind == "missing":
@@ -746,7 +820,7 @@ def strange_requests(both, count):
     refused = 0
     while len(server.due) < count:
         raw = spoiled(chance, peer.encode_request(both.random_request(name)))
-        request = decoded(peer.decode_request, raw)
+        request, before = decoded(peer.decode_request, raw), int(time.time())
         if request is not None and shows_too_much(both.state(name), request):
             continue
         with server.client() as client:
@@ -757,7 +831,7 @@ def strange_requests(both, count):
                 server.due.append(("0 malformed",))
                 refused += 1
             else:
-                both.compare_answer(name, request, heard(client))
+                both.compare_answer(name, request, heard(client), before)
                 server.due.append(("1 end",))
     server.finish()
     print(f"of {count} spoiled requests {refused} were none")
@@ -766,7 +840,7 @@ def strange_requests(both, count):
 def shows_too_much(state, request):
     """Whether a request makes a node quarantine itself."""
     try:
-        rules.serve(state, request)
+        rules.serve(state, request, 0)
     except rules.Refusal as refusal:
         return refusal.number == 33
     return False
@@ -843,14 +917,19 @@ def strange_replies(both, count):
     came = {}
     for number in range(count):
         request = rules.ask(state, 0xf0, 1000)
-        reply = rules.serve(source, request._replace(max=chance.choice((1, 2, 1000, 1000))))
+        most, version = chance.choice((1, 2, 1000, 1000)), chance.choice((1, 2, 2))
+        reply = rules.serve(source, request._replace(max=most, version=version), int(time.time()))
         if number % 2:
             raw = peer.encode_reply(changed(chance, reply, state))
         else:
             raw = spoiled(chance, peer.encode_reply(reply))
-        due = due_of_reply("Oslo", state, decoded(peer.decode_reply, raw))
+        message = decoded(peer.decode_reply, raw)
+        due = due_of_reply("Oslo", state, message)
         told = Fake(answering(peer.frame(peer.REPLY, raw))).tell(node, "pull", "Oslo")
         check("pull tells of a spoiled reply as the rules say", told == due, (raw.hex(), told, due))
+        if due[1].startswith(b"deliver"):
+            times = rules.take(state, message)[0].times
+            check("and keeps its times", node.times("Oslo") == times, (raw.hex(), node.times("Oslo"), times))
         check("a reply that isn't taken changes nothing", due[1].startswith(b"deliver") or due[1].startswith(b"refused 33")
               or open(node.path("Oslo"), "rb").read() == empty, raw.hex())
         kind = due[0], due[1][:10].decode()
@@ -926,6 +1005,7 @@ RUDE = [
     (peer.frame(peer.LINE, b"\xff" * 65536) * 2 + GREETED, 3, "end"), (peer.frame(peer.LINE), 1, "end"),
     (peer.frame(peer.LINE, bytes(8 * 1024 * 1024 - 1)), 0, "malformed"), (peer.frame(peer.REQUEST, bytes(8 * 1024 * 1024 - 1)), 0, "malformed"),
     (peer.frame(peer.REQUEST), 0, "malformed"), (peer.frame(peer.REQUEST, b"ADRQ\0\2"), 0, "malformed"),
+    (peer.frame(peer.REQUEST, b"ADRQ\0\3" + bytes(84)), 0, "malformed"), (peer.frame(peer.LINE, b"upgrade London"), 1, "end"),
     (GREETED + bytes(4) + GREETED, 1, "malformed"),
 ] + [(peer.frame(kind, bytes(16)) + GREETED, 0, "malformed") for kind in (0, 2, 3, 5, 7, 8, 9, 255)]
 
@@ -1033,7 +1113,7 @@ def put_back(program, chance):
             for _ in range(10):
                 both.say(client, "London")
             state = both.state("London")
-            both.ask(client, "London", rules.Request(1, state.dsa, 0, rules.ZERO, 1, 5, {state.inv: state.usn + 1}))
+            both.ask(client, "London", rules.Request(1, state.dsa, 0, rules.ZERO, state.schema, 5, {state.inv: state.usn + 1}))
             both.ask(client, "London", both.random_request("London"))
             for _ in range(5):
                 both.say(client, "London")

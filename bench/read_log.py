@@ -17,13 +17,23 @@ MOST_OBJECTS = 200_000
 MOST_LINKS = 1_000_000
 CLASS, NAME, DELETED = 1, 2, 3
 
-# Schema 1: what objects of a class must have, and what they may have besides.
+# By the number of a schema: what objects of a class must have, and what they may have besides.
 CLASSES = {
-    3: ((), (12, 18, 20, 32)),
-    4: ((), (12,)),
-    5: ((10,), (11, 12, 13, 14, 15, 16, 17, 18, 32)),
-    6: ((19,), (10, 12, 13, 18, 30)),
-    7: ((10,), (12, 16, 17, 20)),
+    1: {
+        3: ((), (12, 18, 20, 32)),
+        4: ((), (12,)),
+        5: ((10,), (11, 12, 13, 14, 15, 16, 17, 18, 32)),
+        6: ((19,), (10, 12, 13, 18, 30)),
+        7: ((10,), (12, 16, 17, 20)),
+    },
+    2: {
+        3: ((), (12, 18, 20, 32, 34)),
+        4: ((), (12,)),
+        5: ((10,), (11, 12, 13, 14, 15, 16, 17, 18, 21, 22, 23, 32)),
+        6: ((19,), (10, 12, 13, 18, 30, 34)),
+        7: ((10,), (12, 16, 17, 20, 34)),
+        8: ((), (11, 12, 13, 14, 18, 21, 32)),
+    },
 }
 # The kind of an attribute's values, how many there are at most, and their range.
 ATTRIBUTES = {
@@ -38,8 +48,13 @@ ATTRIBUTES = {
     18: ("reference", 8, None, None),
     19: ("number", 1, -2_147_483_648, 2_147_483_647),
     20: ("text", 1, 1, 128),
+    21: ("text", 1, 1, 128),
+    22: ("text", 1, 1, 64),
+    23: ("number", 1, 0, 2**63 - 1),
 }
-FORWARD_LINKS = (30, 32)
+# Attributes, of values or of links, that schema 1 doesn't know.
+OF_SCHEMA_2 = (21, 22, 23, 34, 35)
+FORWARD_LINKS = {1: (30, 32), 2: (30, 32, 34)}
 
 
 class Damaged(Exception):
@@ -249,11 +264,11 @@ def is_name(text):
     return all(byte >= 0x20 and byte != 0x7F for byte in text)
 
 
-def is_allowed(class_, attr, values):
+def is_allowed(schema, class_, attr, values):
     """Whether objects of a class may have these values; of a class that isn't known what only a class forbids isn't asked."""
-    if attr not in ATTRIBUTES:
+    if attr not in ATTRIBUTES or schema == 1 and attr in OF_SCHEMA_2:
         return False
-    must, may = CLASSES.get(class_, ((), ())) if class_ is not None else ((), (attr,))
+    must, may = CLASSES[schema].get(class_, ((), ())) if class_ is not None else ((), (attr,))
     if attr not in must and attr not in may or attr in must and not values:
         return False
     kind, most, low, high = ATTRIBUTES[attr]
@@ -271,19 +286,19 @@ def is_birth(oid, rows):
     return stamp[0] == 1 and (stamp[2], stamp[3]) == (oid[1], oid[2])
 
 
-def is_formed(oid, rows):
+def is_formed(schema, oid, rows):
     """Whether an object's rows are those of one."""
     if CLASS not in rows or NAME not in rows or not is_birth(oid, rows):
         return False
     class_ = rows[CLASS][-1]
-    if class_ not in CLASSES or not is_name(rows[NAME][-1][1]):
+    if class_ not in CLASSES[schema] or not is_name(rows[NAME][-1][1]):
         return False
     others = [attr for attr in rows if attr not in (CLASS, NAME, DELETED)]
     if DELETED in rows:
         return not others
-    if any(attr not in rows for attr in CLASSES[class_][0]):
+    if any(attr not in rows for attr in CLASSES[schema][class_][0]):
         return False
-    return all(is_allowed(class_, attr, rows[attr][-1]) for attr in others)
+    return all(is_allowed(schema, class_, attr, rows[attr][-1]) for attr in others)
 
 
 # ---- images
@@ -309,16 +324,16 @@ def image_object(reader, state, last, locals_):
             rows[attr], before = (local, stamp, content), attr
             if attr == CLASS:
                 class_ = content
-                if class_ not in CLASSES or not is_birth(oid, rows):
+                if class_ not in CLASSES[state.schema] or not is_birth(oid, rows):
                     raise Damaged(start)
             elif attr == NAME and not is_name(content[1]):
                 raise Damaged(start)
-            elif attr not in (NAME, DELETED) and (attr == 0 or DELETED in rows or not is_allowed(class_, attr, content)):
+            elif attr not in (NAME, DELETED) and (attr == 0 or DELETED in rows or not is_allowed(state.schema, class_, attr, content)):
                 raise Damaged(start)
     except Damaged as fault:
         raise Damaged(start if fault.place == start else min(faults + [fault.place])) from None
     greatest = max((local for local, _, _ in rows.values()), default=0)
-    if not is_formed(oid, rows) or greatest in locals_:
+    if not is_formed(state.schema, oid, rows) or greatest in locals_:
         raise Damaged(start)
     if faults:
         raise Damaged(faults[0])
@@ -336,7 +351,7 @@ def image_link(reader, state, last, locals_):
         key = source, attr, reader.oid()
         if last is not None and key <= last or state.is_dead(key[0]) or state.is_dead(key[2]) or local in locals_:
             raise Damaged(start)
-        if attr not in FORWARD_LINKS:
+        if attr not in FORWARD_LINKS[state.schema]:
             faults.append(place)
         stamp, present = reader.link_said()
     except Damaged as fault:
@@ -428,7 +443,7 @@ def put_object(state, local, oid, rows):
         need(set(rows) == {DELETED})
     elif oid not in state.objects:
         need(not state.is_gone(oid) and CLASS in rows and NAME in rows)
-        must = CLASSES.get(rows[CLASS][1], ((), ()))[0]
+        must = CLASSES[state.schema].get(rows[CLASS][1], ((), ()))[0]
         need(DELETED in rows or all(attr in rows for attr in must))
     held = state.objects.setdefault(oid, {})
     for attr, (stamp, content) in rows.items():
@@ -446,9 +461,16 @@ def put_link(state, local, link, said):
     state.links[link] = local, *said
 
 
+def is_upgrade(state, change):
+    """Whether a record says that schema 2 is taken, and nothing else."""
+    said = change.quarantined, change.joined, change.times, change.collected, change.removed, change.writes
+    return (state.schema, change.schema, change.usn) == (1, 2, state.usn) and change.mark is None and not any(said)
+
+
 def follow(state, change):
     """Takes a record."""
-    need(not state.quarantined and state.usn <= change.usn and state.schema == change.schema)
+    need(not state.quarantined and state.usn <= change.usn and (state.schema == change.schema or is_upgrade(state, change)))
+    state.schema = change.schema
     need(all(write[0] <= change.usn for write in change.writes))
     for local, kind, key, said in change.writes:
         (put_object if kind == 1 else put_link)(state, local, key, said)
@@ -471,9 +493,9 @@ def follow(state, change):
     need(len(state.marks) <= MOST_MARKS)
     for _, kind, key, _ in change.writes:
         if kind == 1:
-            need(key not in state.objects or is_formed(key, state.objects[key]))
+            need(key not in state.objects or is_formed(state.schema, key, state.objects[key]))
         else:
-            need(key not in state.links or key[1] in FORWARD_LINKS)
+            need(key not in state.links or key[1] in FORWARD_LINKS[state.schema])
 
 
 # ---- logs
@@ -541,7 +563,7 @@ def read_log(data):
 
 def told(state, log):
     yield f"controller {state.dsa.hex()} invocation {state.inv.hex()}"
-    yield f"usn {state.usn}{' quarantined' if state.quarantined else ''}"
+    yield f"usn {state.usn}{' quarantined' if state.quarantined else ''}{' schema 2' if state.schema == 2 else ''}"
     yield f"area {int(log.second)} at {log.place}, records from {log.first} on, end {log.end}"
     for name, vector in (("seen", state.vector), ("collected", state.collected)):
         for inv, usn in sorted(vector.items()):

@@ -9,22 +9,37 @@ import re
 import sys
 from collections import namedtuple
 
-# --- schema -------------------------------------------------------------------------------------------------------
-CLASSES = {3: 'organizationalUnit', 4: 'container', 5: 'user', 6: 'group', 7: 'computer'}
-MUST = {3: [], 4: [], 5: [10], 6: [19], 7: [10]}
-MAY = {3: [12, 18, 20, 32], 4: [12], 5: [11, 12, 13, 14, 15, 16, 17, 18, 32], 6: [10, 12, 13, 18, 30], 7: [12, 16, 17, 20]}
-SUPERIORS = {3: [1, 3], 4: [1, 3, 4], 5: [1, 3, 4], 6: [1, 3, 4], 7: [1, 3, 4]}
-ATTRS = {1: 'class', 2: 'name', 3: 'deleted', 10: 'sAMAccountName', 11: 'displayName', 12: 'description', 13: 'mail',
-         14: 'telephoneNumber', 15: 'employeeNumber', 16: 'disabled', 17: 'thumbprint', 18: 'seeAlso', 19: 'groupType',
-         20: 'location', 30: 'member', 31: 'memberOf', 32: 'manager', 33: 'directReports'}
-# attribute: kind, most values, least, greatest
-SYNTAX = {10: ('text', 1, 1, 20), 11: ('text', 1, 1, 256), 12: ('text', 8, 1, 256), 13: ('text', 1, 1, 256),
-          14: ('text', 8, 1, 64), 15: ('num', 1, 0, 999999999), 16: ('flag', 1, 0, 0), 17: ('oct', 4, 1, 64),
-          18: ('ref', 8, 0, 0), 19: ('num', 1, -2**31, 2**31 - 1), 20: ('text', 1, 1, 128)}
-BACK = {30: 31, 32: 33}
-LINKS = (30, 31, 32, 33)
-CLASS_NUMBER = {name: number for number, name in CLASSES.items()}
-ATTR_NUMBER = {name: number for number, name in ATTRS.items()}
+# --- the two schemas ------------------------------------------------------------------------------------------------
+# by class: its name, what its objects must have, what they may have besides, and the classes of what they may stand under; by
+# attribute: its name, and of values their kind, how many there are at most, the least and the greatest; by forward link: its back link
+Schema = namedtuple('Schema', 'classes must may superiors attrs syntax back')
+SCHEMA_1 = Schema(
+    classes={3: 'organizationalUnit', 4: 'container', 5: 'user', 6: 'group', 7: 'computer'},
+    must={3: [], 4: [], 5: [10], 6: [19], 7: [10]},
+    may={3: [12, 18, 20, 32], 4: [12], 5: [11, 12, 13, 14, 15, 16, 17, 18, 32], 6: [10, 12, 13, 18, 30], 7: [12, 16, 17, 20]},
+    superiors={3: [1, 3], 4: [1, 3, 4], 5: [1, 3, 4], 6: [1, 3, 4], 7: [1, 3, 4]},
+    attrs={1: 'class', 2: 'name', 3: 'deleted', 10: 'sAMAccountName', 11: 'displayName', 12: 'description', 13: 'mail',
+           14: 'telephoneNumber', 15: 'employeeNumber', 16: 'disabled', 17: 'thumbprint', 18: 'seeAlso', 19: 'groupType',
+           20: 'location', 30: 'member', 31: 'memberOf', 32: 'manager', 33: 'directReports'},
+    syntax={10: ('text', 1, 1, 20), 11: ('text', 1, 1, 256), 12: ('text', 8, 1, 256), 13: ('text', 1, 1, 256),
+            14: ('text', 8, 1, 64), 15: ('num', 1, 0, 999999999), 16: ('flag', 1, 0, 0), 17: ('oct', 4, 1, 64),
+            18: ('ref', 8, 0, 0), 19: ('num', 1, -2**31, 2**31 - 1), 20: ('text', 1, 1, 128)},
+    back={30: 31, 32: 33})
+SCHEMA_2 = Schema(
+    classes={**SCHEMA_1.classes, 8: 'contact'},
+    must={**SCHEMA_1.must, 8: []},
+    may={3: SCHEMA_1.may[3] + [34], 4: SCHEMA_1.may[4], 5: SCHEMA_1.may[5] + [21, 22, 23], 6: SCHEMA_1.may[6] + [34],
+         7: SCHEMA_1.may[7] + [34], 8: [11, 12, 13, 14, 18, 21, 32]},
+    superiors={**SCHEMA_1.superiors, 8: [1, 3, 4]},
+    attrs={**SCHEMA_1.attrs, 21: 'title', 22: 'department', 23: 'accountExpires', 34: 'managedBy', 35: 'managedObjects'},
+    syntax={**SCHEMA_1.syntax, 21: ('text', 1, 1, 128), 22: ('text', 1, 1, 64), 23: ('num', 1, 0, 2**63 - 1)},
+    back={**SCHEMA_1.back, 34: 35})
+SCHEMAS = {1: SCHEMA_1, 2: SCHEMA_2}
+# the schema whose names texts and answers speak, and by which links are shown at both ends
+NEWEST = SCHEMA_2
+CLASS_NUMBER = {name: number for number, name in NEWEST.classes.items()}
+ATTR_NUMBER = {name: number for number, name in NEWEST.attrs.items()}
+FORWARD = {back: attr for attr, back in NEWEST.back.items()}
 ROOT, LOST = 1, 2
 USN_MAX, VERSION_MAX = 2**63 - 1, 2**32 - 1
 ITEM_BYTES = 4 * 1024 * 1024
@@ -38,8 +53,9 @@ Row = namedtuple('Row', 'stamp local content')
 LinkRow = namedtuple('LinkRow', 'stamp present local')        # stamp = (created, Stamp)
 Mark = namedtuple('Mark', 'obj prop seen')
 ZERO = Mark(0, 0, 0)
-Request = namedtuple('Request', 'dest source inv mark schema max vector')
-Reply = namedtuple('Reply', 'dest source inv start to schema asked last items')   # last: None or a vector
+Request = namedtuple('Request', 'dest source inv mark schema max vector version', defaults=(2,))
+# last: None or a vector; times: those of its cursors that are known
+Reply = namedtuple('Reply', 'dest source inv start to schema asked last items version times', defaults=(2, {}))
 
 
 class Refusal(Exception):
@@ -76,7 +92,7 @@ def show_text(text):
 
 
 def show_attr(attr):
-    return ATTRS.get(attr, '%%%d' % attr)
+    return NEWEST.attrs.get(attr, '%%%d' % attr)
 
 
 def show_mark(mark):
@@ -101,8 +117,8 @@ def fold(text):
 
 
 # --- what the schema tests ----------------------------------------------------------------------------------------
-def bad_value_place(attr, values, empty_is_bad):
-    kind, most, least, greatest = SYNTAX[attr]
+def bad_value_place(schema, attr, values, empty_is_bad):
+    kind, most, least, greatest = schema.syntax[attr]
     if not values:
         return 0 if empty_is_bad else None
     for place, value in enumerate(values):
@@ -129,16 +145,16 @@ def bad_name_place(text):
     return None
 
 
-def check_attr(class_number, attr, values, empty_is_bad):
+def check_attr(schema, class_number, attr, values, empty_is_bad):
     """Refusals 2, 6, 3, 5."""
-    if attr not in ATTRS:
+    if attr not in schema.attrs:
         raise Refusal(2, 'UnknownAttribute', ('attr', show_attr(attr)))
-    if attr in LINKS:
+    if attr in schema.back or attr in schema.back.values():
         raise Refusal(6, 'IsLink', ('attr', show_attr(attr)))
-    if class_number is not None and (attr <= 3 or attr not in MUST[class_number] + MAY[class_number]):
+    if class_number is not None and (attr <= 3 or attr not in schema.must[class_number] + schema.may[class_number]):
         raise Refusal(3, 'NotAllowed', ('attr', show_attr(attr)))
     if attr > 3:
-        place = bad_value_place(attr, values, empty_is_bad)
+        place = bad_value_place(schema, attr, values, empty_is_bad)
         if place is not None:
             raise Refusal(5, 'BadValue', ('attr', show_attr(attr)), ('place', place))
 
@@ -152,8 +168,9 @@ def check_name(text):
 # --- one controller's state ---------------------------------------------------------------------------------------
 class State:
     def __init__(self, dsa, inv):
-        self.dsa, self.inv, self.usn, self.quarantined = dsa, inv, 0, False
+        self.dsa, self.inv, self.usn, self.quarantined, self.schema = dsa, inv, 0, False, 1
         self.others = {}          # the vector without the own cursor
+        self.times = {}           # inv: the second of the last success with its cursor, where one is known
         self.purged = {}
         self.marks = {}           # dsa: (inv, mark)
         self.objects = {}         # Oid: {attr: Row}
@@ -162,11 +179,14 @@ class State:
 
     def copy(self):
         new = State(self.dsa, self.inv)
-        new.usn, new.quarantined = self.usn, self.quarantined
-        new.others, new.purged, new.marks = dict(self.others), dict(self.purged), dict(self.marks)
+        new.usn, new.quarantined, new.schema = self.usn, self.quarantined, self.schema
+        new.others, new.times, new.purged, new.marks = dict(self.others), dict(self.times), dict(self.purged), dict(self.marks)
         new.objects = {oid: dict(rows) for oid, rows in self.objects.items()}
         new.links = dict(self.links)
         return new
+
+    def table(self):
+        return SCHEMAS[self.schema]
 
     def vector(self):
         vector = {inv: usn for inv, usn in self.others.items() if inv != self.inv and usn > 0}
@@ -260,24 +280,26 @@ class View:
             return text
         return text + '\nCNF:' + full_id(guid)
 
+    def values(self, guid):
+        """What an entry shows of its attributes that aren't links."""
+        return {attr: row.content for attr, row in self.state.objects[self.live[guid]].items() if attr >= 10 and row.content}
+
+    def ends(self):
+        """What entries show of links, forward and back: by GUID and attribute the GUIDs of the other ends."""
+        ends = {}
+        for (start, attr, end), row in self.state.links.items():
+            if row.present and self.live.get(start.guid) == start and self.live.get(end.guid) == end:
+                ends.setdefault(start.guid, {}).setdefault(attr, []).append(end.guid)
+                ends.setdefault(end.guid, {}).setdefault(NEWEST.back[attr], []).append(start.guid)
+        return ends
+
     def directory(self):
-        lines = []
+        lines, ends = [], self.ends()
         for guid in sorted(self.live):
-            oid = self.live[guid]
-            shown = {}
-            for attr, row in self.state.objects[oid].items():
-                if attr >= 10 and row.content:
-                    shown[attr] = [show_value(value) for value in row.content]
-            ends = {}
-            for (start, attr, end), row in self.state.links.items():
-                if row.present and self.live.get(start.guid) == start and self.live.get(end.guid) == end:
-                    if start == oid:
-                        ends.setdefault(attr, []).append(end.guid)
-                    if end == oid:
-                        ends.setdefault(BACK[attr], []).append(start.guid)
-            for attr, guids in ends.items():
+            shown = {attr: [show_value(value) for value in values] for attr, values in self.values(guid).items()}
+            for attr, guids in ends.get(guid, {}).items():
                 shown[attr] = [show_id(end) for end in sorted(guids)]
-            lines.append('  %s %s parent=%s name=%s' % (show_id(guid), CLASSES[self.class_of(guid)], show_id(self.place[guid]),
+            lines.append('  %s %s parent=%s name=%s' % (show_id(guid), NEWEST.classes[self.class_of(guid)], show_id(self.place[guid]),
                                                      show_text(self.shown[guid]))
                          + ''.join(' %s=%s' % (show_attr(attr), ','.join(shown[attr])) for attr in sorted(shown)))
         return lines
@@ -319,9 +341,21 @@ def check_parent(view, parent):
         raise Refusal(12, 'NoParent', ('guid', show_id(parent)))
 
 
+def check_way_up(view, parent, guid):
+    """Refusal 14: the way up from a parent, by the parents that names give and through live objects, meets the GUID."""
+    at, seen = parent, set()
+    while at not in seen:
+        if at == guid:
+            raise Refusal(14, 'WouldLoop')
+        if at in (ROOT, LOST) or at not in view.live:
+            return
+        seen.add(at)
+        at = view.parent[at]
+
+
 def check_superior(view, class_number, parent):
     above = parent if parent in (ROOT, LOST) else view.class_of(parent)
-    if above not in SUPERIORS[class_number]:
+    if above not in view.state.table().superiors[class_number]:
         raise Refusal(8, 'BadSuperior')
 
 
@@ -358,13 +392,13 @@ def full(*ways):
             raise Refusal(22, 'Full', ('table', table), ('limit', LIMIT[table]))
 
 
-def written(state):
-    """Counts what a client's write of this USN wrote."""
+def written(old, state):
+    """Counts what a client's write wrote: all that came behind the USN before."""
     for oid, rows in state.objects.items():
-        sent = [(attr, row.stamp, row.content) for attr, row in rows.items() if row.local == state.usn]
+        sent = [(attr, row.stamp, row.content) for attr, row in rows.items() if row.local > old.usn]
         if sent:
             state.body += 8 + item_length(('object', oid, sent))
-    state.body += sum(8 + item_length(('link',)) for row in state.links.values() if row.local == state.usn)
+    state.body += sum(8 + item_length(('link',)) for row in state.links.values() if row.local > old.usn)
     return state
 
 
@@ -373,11 +407,12 @@ def write_add(old, now, guid, class_number, parent, text, values):
     state, view = old.copy(), View(old)
     if guid in (ROOT, LOST) or any(oid.guid == guid for oid in state.objects):
         raise Refusal(17, 'GuidThere', ('guid', show_id(guid)))
-    if class_number not in CLASSES:
+    schema = state.table()
+    if class_number not in schema.classes:
         raise Refusal(1, 'UnknownClass')
     for attr in sorted(values):
-        check_attr(class_number, attr, values[attr], True)
-    for attr in sorted(MUST[class_number]):
+        check_attr(schema, class_number, attr, values[attr], True)
+    for attr in sorted(schema.must[class_number]):
         if attr not in values:
             raise Refusal(4, 'MissingMust', ('attr', show_attr(attr)))
     check_name(text)
@@ -398,10 +433,10 @@ def write_modify(old, now, guid, values):
     state, view = old.copy(), View(old)
     fixed(guid)
     oid = named(state, view, guid)
-    class_number = view.class_of(guid)
+    class_number, schema = view.class_of(guid), state.table()
     for attr in sorted(values):
-        check_attr(class_number, attr, values[attr], False)
-    for attr in sorted(MUST[class_number]):
+        check_attr(schema, class_number, attr, values[attr], False)
+    for attr in sorted(schema.must[class_number]):
         if attr in values and not values[attr]:
             raise Refusal(4, 'MissingMust', ('attr', show_attr(attr)))
     rows = state.objects[oid]
@@ -419,12 +454,7 @@ def write_rename(old, now, guid, parent, text):
     oid = named(state, view, guid)
     check_name(text)
     check_parent(view, parent)
-    at, seen = parent, set()
-    while at in view.live and at not in seen:
-        if at == guid:
-            raise Refusal(14, 'WouldLoop')
-        seen.add(at)
-        at = view.parent[at]
+    check_way_up(view, parent, guid)
     check_superior(view, view.class_of(guid), parent)
     check_taken(view, parent, text, guid)
     stamp = next_stamp(state, 2, state.objects[oid][2].stamp, now)
@@ -452,12 +482,12 @@ def write_link(old, now, start, attr, end, present):
     state, view = old.copy(), View(old)
     fixed(start)
     fixed(end)
-    start_oid = named(state, view, start)
-    if attr not in ATTRS:
+    start_oid, schema = named(state, view, start), state.table()
+    if attr not in schema.attrs:
         raise Refusal(2, 'UnknownAttribute', ('attr', show_attr(attr)))
-    if attr not in BACK:
+    if attr not in schema.back:
         raise Refusal(7, 'NotLink', ('attr', show_attr(attr)))
-    if attr not in MAY[view.class_of(start)]:
+    if attr not in schema.may[view.class_of(start)]:
         raise Refusal(3, 'NotAllowed', ('attr', show_attr(attr)))
     end_oid = named(state, view, end)
     key = (start_oid, attr, end_oid)
@@ -474,10 +504,64 @@ def write_link(old, now, start, attr, end, present):
     return state
 
 
+def links_revived(state, view, oid, class_number, ends):
+    """The keys of the links of an entry whose other end is live, or is the object itself, and whose first end may have them."""
+    may, keys = state.table().may, set()
+    for attr, guids in ends.items():
+        for guid in guids:
+            other = oid if guid == oid.guid else view.live.get(guid)
+            if other is None:
+                continue
+            start, link, end = (oid, attr, other) if attr in NEWEST.back else (other, FORWARD[attr], oid)
+            if link in may[class_number if start == oid else view.class_of(start.guid)]:
+                keys.add((start, link, end))
+    return sorted(keys)
+
+
+def write_revive(old, now, guid, image, parent, text):
+    """An object of an image's entry, under a new birth: the object takes one USN, and each of its links one of its own."""
+    not_quarantined(old)
+    fixed(guid)
+    if image.schema > old.schema:
+        raise Refusal(31, 'SchemaMismatch', ('mine', old.schema), ('theirs', image.schema))
+    state, view, archive = old.copy(), View(old), View(image)
+    if guid not in archive.live:
+        raise Refusal(60, 'NotInImage', ('guid', show_id(guid)))
+    if guid in view.live:
+        raise Refusal(61, 'StillLive', ('guid', show_id(guid)))
+    oid = Oid(guid, state.inv, state.usn + 1)
+    if oid in state.objects or any(oid in (key[0], key[2]) for key in state.links):
+        raise Refusal(62, 'BirthThere', ('guid', show_id(guid)))
+    class_number = archive.class_of(guid)
+    check_name(text)
+    check_parent(view, parent)
+    check_way_up(view, parent, guid)
+    check_superior(view, class_number, parent)
+    check_taken(view, parent, text, guid)
+    keys = links_revived(state, view, oid, class_number, archive.ends().get(guid, {}))
+    take_usn(state, 1 + len(keys))
+    rows = {1: class_number, 2: (text, parent), **{attr: list(values) for attr, values in archive.values(guid).items()}}
+    stamp = Stamp(1, now, oid.inv, oid.usn)
+    state.objects[oid] = {attr: Row(stamp, oid.usn, rows[attr]) for attr in rows}
+    for usn, key in enumerate(keys, oid.usn + 1):
+        state.links[key] = LinkRow((now, Stamp(1, now, oid.inv, usn)), True, usn)
+    full(sizes(state))
+    return state
+
+
+def upgrade(old):
+    not_quarantined(old)
+    if old.schema == 2:
+        raise Refusal(52, 'SchemaThere', ('number', 2))
+    state = old.copy()
+    state.schema = 2
+    return state
+
+
 # --- requests and replies -----------------------------------------------------------------------------------------
-def ask(state, partner, most):
+def ask(state, partner, most, version=2):
     inv, mark = state.marks.get(partner, (0, ZERO))
-    return Request(state.dsa, partner, inv, mark, 1, most, state.vector())
+    return Request(state.dsa, partner, inv, mark, state.schema, most, state.vector(), version)
 
 
 def content_length(attr, content):
@@ -511,7 +595,15 @@ def candidates(state, start, vector):
     return sorted(found, key=lambda pair: pair[0])
 
 
-def serve(state, request):
+def told(state, now):
+    """The times that a last reply tells: those that are known, and of the own cursor the moment of the call; 0 isn't told."""
+    times = {inv: time for inv, time in state.times.items() if inv != state.inv}
+    if state.usn > 0 and now > 0:
+        times[state.inv] = now
+    return times
+
+
+def serve(state, request, now):
     """The reply; 33 is raised for the caller to quarantine."""
     not_quarantined(state)
     if request.source != state.dsa:
@@ -522,8 +614,8 @@ def serve(state, request):
     shown = max(request.vector.get(state.inv, 0), mark.seen if request.inv == state.inv else 0)
     if shown > state.usn:
         raise Refusal(33, 'RolledBack', ('inv', show_id(state.inv)), ('mine', state.usn), ('shown', shown))
-    if request.schema != 1:
-        raise Refusal(31, 'SchemaMismatch', ('mine', 1), ('theirs', request.schema))
+    if request.schema != state.schema:
+        raise Refusal(31, 'SchemaMismatch', ('mine', state.schema), ('theirs', request.schema))
     gap = first_gap(state.purged, request.vector)
     if gap is not None:
         raise Refusal(32, 'TooOld', ('inv', show_id(gap)), ('purged', state.purged[gap]), ('has', request.vector.get(gap, 0)))
@@ -538,7 +630,8 @@ def serve(state, request):
         to, vector = Mark(last_local, start.prop, state.usn), None
     else:
         to, vector = Mark(state.usn, state.usn, state.usn), state.vector()
-    return Reply(request.dest, request.source, state.inv, start, to, 1, request.vector, vector, items)
+    times = told(state, now) if vector is not None and request.version == 2 else {}
+    return Reply(request.dest, request.source, state.inv, start, to, state.schema, request.vector, vector, items, request.version, times)
 
 
 def bad_item(place, cause):
@@ -547,7 +640,7 @@ def bad_item(place, cause):
 
 def take_object(state, vector, place, oid, sent):
     """Applies one object item; whether it wrote. Rows that aren't left out are tested: 44, then 43."""
-    held = state.objects.get(oid)
+    held, schema = state.objects.get(oid), state.table()
     if held is None and covers(vector, oid.inv, oid.usn):
         return False
     attrs = [attr for attr, _, _ in sent]
@@ -563,13 +656,13 @@ def take_object(state, vector, place, oid, sent):
             if attr == 1:
                 if stamp.version != 1 or (stamp.inv, stamp.usn) != (oid.inv, oid.usn):
                     raise bad_item(place, 'WrongBirth')
-                if content not in CLASSES:
+                if content not in schema.classes:
                     raise Refusal(1, 'UnknownClass')
             elif attr == 2:
                 check_name(content[0])
             elif attr != 3:
-                must = class_number is not None and attr in MUST[class_number]
-                check_attr(class_number, attr, content, must)
+                must = class_number is not None and attr in schema.must[class_number]
+                check_attr(schema, class_number, attr, content, must)
         except Refusal as refusal:
             if refusal.number == 44:
                 raise
@@ -578,7 +671,7 @@ def take_object(state, vector, place, oid, sent):
         given = [attr for attr, _, _ in kept]
         missing = 1 not in given or 2 not in given
         if not missing and 3 not in given:
-            missing = any(attr not in given for attr in MUST[class_number])
+            missing = any(attr not in given for attr in schema.must[class_number])
         if missing:
             raise Refusal(43, 'Incomplete', ('object', show_id(oid.guid)))
     usn = state.usn + 1
@@ -604,7 +697,7 @@ def take_link(state, vector, place, key, stamp, present):
                 return False
         elif covers(vector, end.inv, end.usn):
             return False
-    if key[1] not in BACK:
+    if key[1] not in state.table().back:
         raise bad_item(place, 'NotLink')
     held = state.links.get(key)
     if held is not None and not stamp > held.stamp:
@@ -626,8 +719,8 @@ def take(old, reply):
     gap = first_gap(reply.asked, vector)
     if gap is not None:
         raise Refusal(42, 'VectorBehind', ('inv', show_id(gap)), ('has', vector.get(gap, 0)), ('needs', reply.asked[gap]))
-    if reply.schema != 1:
-        raise Refusal(31, 'SchemaMismatch', ('mine', 1), ('theirs', reply.schema))
+    if reply.schema != old.schema:
+        raise Refusal(31, 'SchemaMismatch', ('mine', old.schema), ('theirs', reply.schema))
     if reply.last is not None and reply.last.get(old.inv, 0) > old.usn:
         raise Refusal(33, 'RolledBack', ('inv', show_id(old.inv)), ('mine', old.usn), ('shown', reply.last[old.inv]))
     state, wrote = old.copy(), 0
@@ -647,6 +740,7 @@ def take(old, reply):
     state.body += 56
     if reply.last is not None:
         join(state.others, reply.last)
+        join(state.times, reply.times)
         state.body += 32 * len(reply.last)
     full(most, sizes(state))
     return state, wrote
@@ -836,18 +930,18 @@ class World:
     def write(self, name, function, *arguments):
         def work():
             controller = self.up(name)
-            controller.commit(written(function(controller.read, self.now, *arguments)))
+            controller.commit(written(controller.read, function(controller.read, self.now, *arguments)))
             return 'ok usn=%d' % controller.read.usn
         return self.call(work)
 
-    def do_ask(self, name, partner, most):
+    def do_ask(self, name, partner, most, version=2):
         """Result and request."""
         made = []
 
         def work():
             self.there(name)
             partner_dsa = self.there(partner).read.dsa
-            made.append(ask(self.up(name).read, partner_dsa, most))
+            made.append(ask(self.up(name).read, partner_dsa, most, version))
             return 'ok'
         return self.call(work), made[0] if made else None
 
@@ -858,7 +952,7 @@ class World:
             controller = self.up(name)
             request = get()
             try:
-                reply = serve(controller.read, request)
+                reply = serve(controller.read, request, self.now)
             except Refusal as refusal:
                 if refusal.number == 33:
                     self.quarantine(controller)
@@ -967,8 +1061,20 @@ class World:
     def line_unlink(self, name, *arguments):
         return self.write(name, write_link, *arguments, False)
 
-    def line_ask(self, name, partner, most, bound):
-        result, request = self.do_ask(name, partner, most)
+    def line_revive(self, name, guid, image, parent, text):
+        def work():
+            return self.write(name, write_revive, guid, self.bound(self.images, image), parent, text)
+        return self.call(work)
+
+    def line_upgrade(self, name):
+        def work():
+            controller = self.up(name)
+            controller.commit(upgrade(controller.read))
+            return 'ok'
+        return self.call(work)
+
+    def line_ask(self, name, partner, most, bound, version=2):
+        result, request = self.do_ask(name, partner, most, version)
         if request is not None:
             self.requests[bound] = request
         return result
@@ -1053,7 +1159,8 @@ class World:
         return self.report(name, lambda state: View(state).directory())
 
     def line_vector(self, name):
-        return self.report(name, lambda state: ['  %s %d' % (show_id(inv), usn) for inv, usn in sorted(state.vector().items())])
+        return self.report(name, lambda state: ['  %s %d %d' % (show_id(inv), usn, state.times.get(inv, 0))
+                                                for inv, usn in sorted(state.vector().items())])
 
     def line_marks(self, name):
         return self.report(name, lambda state: ['  %s %s %s' % (show_id(dsa), show_id(inv), show_mark(mark))
@@ -1076,16 +1183,17 @@ PLAIN = r'(?:%' + NUM + r'|[A-Za-z]+)'
 VALUE = r'(?:' + TEXT + '|-?' + NUM + '|true|false|x(?:[0-9a-f]{2})+|' + ID + ')'
 SET = PLAIN + r'=(?:' + VALUE + '(?:,' + VALUE + ')*)?'
 FORMS = {'NAME': NAME, 'ID': ID, 'NUM': NUM, 'MAX': NUM, 'ROUNDS': NUM, 'CALLS': NUM, 'TEXT': TEXT, 'CLASS': PLAIN, 'ATTR': PLAIN, 'SET': SET,
-         'HOW': 'kept|lost|torn'}
+         'HOW': 'kept|lost|torn', 'VERSION': 'v1'}
 FORMS = {word: re.compile('(?:' + form + ')(?= |$)') for word, form in FORMS.items()}
 GRAMMAR = {
     'controller': ['NAME ID ID'], 'time': ['NUM'], 'add': ['NAME ID CLASS ID TEXT SETS'], 'modify': ['NAME ID SETS1'],
     'rename': ['NAME ID ID TEXT'], 'delete': ['NAME ID'], 'link': ['NAME ID ATTR ID'], 'unlink': ['NAME ID ATTR ID'],
-    'ask': ['NAME NAME MAX as NAME'], 'serve': ['NAME NAME as NAME'], 'deliver': ['NAME NAME'], 'pull': ['NAME NAME MAX'],
-    'cycle': ['NAME NAME MAX'], 'collect': ['NAME NUM'], 'backup': ['NAME as NAME'], 'restore': ['NAME NAME ID'],
+    'ask': ['NAME NAME MAX as NAME', 'NAME NAME MAX as NAME VERSION'], 'serve': ['NAME NAME as NAME'], 'deliver': ['NAME NAME'],
+    'pull': ['NAME NAME MAX'], 'cycle': ['NAME NAME MAX'], 'collect': ['NAME NUM'], 'backup': ['NAME as NAME'], 'restore': ['NAME NAME ID'],
     'install': ['NAME ID NAME ID'], 'snapshot': ['NAME as NAME'], 'rollback': ['NAME NAME'],
     'stop': ['NAME', 'NAME after CALLS HOW'], 'fail': ['NAME after CALLS'], 'start': ['NAME'], 'show': ['NAME'],
-    'vector': ['NAME'], 'marks': ['NAME'], 'meta': ['NAME ID'], 'ring': ['ROUNDS MAX NAMES'],
+    'vector': ['NAME'], 'marks': ['NAME'], 'meta': ['NAME ID'], 'ring': ['ROUNDS MAX NAMES'], 'upgrade': ['NAME'],
+    'revive': ['NAME ID NAME ID TEXT'],
 }
 
 
@@ -1138,6 +1246,8 @@ def read_token(word, token):
         return read_number(token, 10000, 1)
     if word == 'ROUNDS':
         return read_number(token, 126, 1)
+    if word == 'VERSION':
+        return 1
     if word == 'CALLS':
         return read_number(token, 1000)
     if word == 'TEXT':
@@ -1210,7 +1320,7 @@ def read_line(line):
 
 
 USES = {'controller': '', 'install': '..i', 'restore': 'ci', 'ask': 'cc', 'serve': 'cq', 'deliver': 'cr', 'pull': 'cc', 'cycle': 'cc',
-        'rollback': 'cs', 'time': '', 'ring': ''}
+        'rollback': 'cs', 'time': '', 'ring': '', 'revive': 'c.i'}
 BINDS = {'controller': ('c', 1), 'install': ('c', 1), 'ask': ('q', 4), 'serve': ('r', 3), 'backup': ('i', 2), 'snapshot': ('s', 2)}
 DSA = {'controller': 2, 'install': 2}
 INV = {'controller': 3, 'restore': 3, 'install': 4}

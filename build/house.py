@@ -4,13 +4,18 @@
 A crate `adr_run_*` is there because a schedule is run, one called `adr_test_*` has tests, and `adr_law_*` are laws. No
 crate but these, and the program itself, stands on a crate of the first two kinds, and none of a run stands on tests.
 The groups of `crates.txt` are those of "The rooms" in `docs/ARCHITECTURE.md`, with the same crates in the same order.
+The rooms that have an `OUTLINE.md` are those to which the table of `docs/PROOFS.md` leads. What has to be believed is
+what the tables of `docs/MODEL.md` list (`bench/believed.py`). A line of prose has at most 120 columns.
 It writes what is wrong, a line each, and ends with 1 if something is.
 """
+import glob
 import os
 import re
 import sys
 
+TOP = os.path.join(os.path.dirname(os.path.abspath(__file__)), "..")
 PROGRAM = ("adr_cmd", "adrep")
+COLUMNS = 120
 
 
 def groups_of_crates(text):
@@ -63,16 +68,61 @@ def differences(groups, page):
     named = [(heading, [name for name, _ in crates]) for heading, crates in groups]
     if [heading for heading, _ in named] != [heading for heading, _ in page]:
         return [f"the groups of crates.txt are {[h for h, _ in named]}, those of the page {[h for h, _ in page]}"]
-    return [f"{heading}: {mine} in crates.txt, {theirs} on the page" for (heading, mine), (_, theirs) in zip(named, page) if mine != theirs]
+    lines = []
+    for (heading, mine), (_, theirs) in zip(named, page):
+        lines += [f"docs/ARCHITECTURE.md, {heading}: {name} is lacking" for name in mine if name not in theirs]
+        lines += [f"docs/ARCHITECTURE.md, {heading}: {name} isn't in crates.txt there" for name in theirs if name not in mine]
+        if sorted(mine) == sorted(theirs) and mine != theirs:
+            lines.append(f"docs/ARCHITECTURE.md, {heading}: crates.txt has the order {' '.join(mine)}")
+    return lines
+
+
+def read(path):
+    """The text of a file of the repository."""
+    with open(os.path.join(TOP, path), encoding="utf-8") as file:
+        return file.read()
+
+
+def pages():
+    """The pages of the repository, those beside the rooms among them."""
+    patterns = ("README.md", "CONTRIBUTING.md", "docs/*.md", "crates/*/OUTLINE.md")
+    return sorted(os.path.relpath(path, TOP) for pattern in patterns for path in glob.glob(os.path.join(TOP, pattern)))
+
+
+def wrong_outlines(names):
+    """A line for each outline that `docs/PROOFS.md` doesn't lead to, or that isn't there, and for a room without a row."""
+    table = read("docs/PROOFS.md").split("\n## Room by room\n", 1)[1]
+    led_to = set(re.findall(r"\(\.\./(crates/\w+/OUTLINE\.md)\)", table))
+    there = {page for page in pages() if page.endswith("/OUTLINE.md")}
+    rooms = set(re.findall(r"`(adr\w*)`", " ".join(line.split("|")[1] for line in table.splitlines() if line.startswith("|"))))
+    return (
+        [f"docs/PROOFS.md, room by room: {page} isn't named" for page in sorted(there - led_to)]
+        + [f"docs/PROOFS.md, room by room: there is no {page}" for page in sorted(led_to - there)]
+        + [f"docs/PROOFS.md, room by room: there is no room {room}" for room in sorted(rooms - names)]
+    )
+
+
+def wide_lines():
+    """A line for each line of prose that isn't wrapped; rows of tables and code may be longer."""
+    wide = []
+    for page in pages():
+        is_code = False
+        for number, line in enumerate(read(page).splitlines(), 1):
+            is_code ^= line.lstrip().startswith("```")
+            if len(line) > COLUMNS and not is_code and not line.startswith("|"):
+                wide.append(f"{page}:{number}: {len(line)} columns, and prose has at most {COLUMNS}")
+    return wide
 
 
 def main():
-    top = os.path.join(os.path.dirname(os.path.abspath(__file__)), "..")
-    with open(os.path.join(top, "crates.txt"), encoding="utf-8") as file:
-        groups = groups_of_crates(file.read())
-    with open(os.path.join(top, "docs", "ARCHITECTURE.md"), encoding="utf-8") as file:
-        page = groups_of_page(file.read())
-    wrong = wrong_edges(groups) + differences(groups, page)
+    sys.path.insert(0, os.path.join(TOP, "bench"))
+    sys.dont_write_bytecode = True
+    from believed import lacking
+
+    groups = groups_of_crates(read("crates.txt"))
+    names = {name for _, crates in groups for name, _ in crates}
+    wrong = wrong_edges(groups) + differences(groups, groups_of_page(read("docs/ARCHITECTURE.md")))
+    wrong += wrong_outlines(names) + lacking() + wide_lines()
     for line in wrong:
         print(line)
     return 1 if wrong else 0

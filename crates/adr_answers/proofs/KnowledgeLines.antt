@@ -1,13 +1,18 @@
--- The line of a cursor tells the cursor, and the line of a partner the partner's mark.
-use Rattle.std.proofs.Common.{◌≡◌, ℕ, List, [], ◌∷◌, ◌++◌, refl, sym, ◌∙◌, append_assoc}
-use Rattle.std.specs.Prelude.{codes}
+-- The line of a cursor tells the cursor and its moment, and the line of a partner the partner's mark.
+use Rattle.std.proofs.Common.{◌≡◌, ◌<◌, ◌^◌, ℕ, Bool, true, false, cond, List, [], ◌∷◌, ◌++◌, refl, sym, ◌∙◌, append_assoc, arith}
+use Rattle.std.specs.Prelude.{All, codes}
+use Rattle.std.specs.Ordering.{is_eq}
 use Rattle.std.specs.Fmt.{decimal}
 use Rattle.std.proofs.lemmas.List.{append_cancel_left}
+use Rattle.std.proofs.lemmas.List.Elements.{All-cons, All-head, All-nil, All-tail}
+use Rattle.adr_values.specs.Dated.{Dated, with_moments}
+use Rattle.adr_values.specs.Order.{identifier_order}
+use Rattle.adr_values.specs.Vector.{Cursors, at}
 use Rattle.adr_values.specs.declared.mark.Mark.{Mark}
 use Rattle.adr_token.specs.Laws.{IsIdentifier}
 use Rattle.adr_token.specs.Spelling.{identifier_token}
-use Rattle.adr_answers.specs.Line.{cursor_line, mark_text, partner_line}
-use Rattle.adr_answers.specs.Printable.{IsPrintableCursor, IsPrintablePartner}
+use Rattle.adr_answers.specs.Line.{dated_line, mark_text, partner_line}
+use Rattle.adr_answers.specs.Printable.{IsPrintableCursor, IsPrintableMoment, IsPrintablePartner}
 use Rattle.adr_answers.proofs.Tokens.{identifiers_divide, numbers_divide}
 
 some_first : (x : List ℕ) → 32 ∷ x ≡ [] → ⊥
@@ -26,22 +31,44 @@ id_divide i j x y hi hj e =
     let left : x ≡ y = cc in
     (d.0, left)
 
-cursor_flat : (a i b n f r : List ℕ) → (a ++ i ++ b ++ n ++ f) ++ r ≡ a ++ (i ++ (b ++ (n ++ (f ++ r))))
-cursor_flat a i b n f r = simp append_assoc
+-- a cursor with its moment
+pub record IsPrintableDated (d : Dated) : Type 0 where
+  pub cursor : IsPrintableCursor d.0
+  pub moment : d.1 < 2 ^ 64
 
-cursor_is : (c : List ℕ × ℕ) (r : List ℕ) → cursor_line c ++ r ≡ id_text c.0 (decimal c.1 ++ (10 ∷ r))
-unfolding cursor_line id_text
-cursor_is c r = cursor_flat (codes "  ") (identifier_token c.0) (codes " ") (decimal c.1) (codes "\n") r
+dated_flat : (a i b n c m f r : List ℕ) → (a ++ i ++ b ++ n ++ c ++ m ++ f) ++ r ≡ a ++ (i ++ (b ++ (n ++ (c ++ (m ++ (f ++ r))))))
+dated_flat a i b n c m f r = simp append_assoc
 
-pub cursor_divide : (c d : List ℕ × ℕ) (r s : List ℕ) → IsPrintableCursor c → IsPrintableCursor d → cursor_line c ++ r ≡ cursor_line d ++ s → (c ≡ d) × (r ≡ s)
-cursor_divide c d r s hc hd e =
-    let id = id_divide c.0 d.0 (decimal c.1 ++ (10 ∷ r)) (decimal d.1 ++ (10 ∷ s)) hc.inv hd.inv (sym (cursor_is c r) ∙ e ∙ cursor_is d s) in
-    let usn = numbers_divide 10 refl c.1 d.1 r s hc.usn hd.usn id.1 in
-    (λ i. (id.0 i, usn.0 i), usn.1)
+dated_is : (d : Dated) (r : List ℕ) → dated_line d ++ r ≡ id_text d.0.0 (decimal d.0.1 ++ (32 ∷ (decimal d.1 ++ (10 ∷ r))))
+unfolding dated_line id_text
+dated_is d r = dated_flat (codes "  ") (identifier_token d.0.0) (codes " ") (decimal d.0.1) (codes " ") (decimal d.1) (codes "\n") r
 
-pub cursor_some : (c : List ℕ × ℕ) (r : List ℕ) → cursor_line c ++ r ≡ [] → ⊥
+pub dated_divide : (d e : Dated) (r s : List ℕ) → IsPrintableDated d → IsPrintableDated e → dated_line d ++ r ≡ dated_line e ++ s → (d ≡ e) × (r ≡ s)
+dated_divide d e r s hd he h =
+    let id = id_divide d.0.0 e.0.0 (decimal d.0.1 ++ (32 ∷ (decimal d.1 ++ (10 ∷ r)))) (decimal e.0.1 ++ (32 ∷ (decimal e.1 ++ (10 ∷ s)))) hd.cursor.inv he.cursor.inv (sym (dated_is d r) ∙ h ∙ dated_is e s) in
+    let usn = numbers_divide 32 refl d.0.1 e.0.1 (decimal d.1 ++ (10 ∷ r)) (decimal e.1 ++ (10 ∷ s)) hd.cursor.usn he.cursor.usn id.1 in
+    let moment = numbers_divide 10 refl d.1 e.1 r s hd.moment he.moment usn.1 in
+    (λ i. ((id.0 i, usn.0 i), moment.0 i), moment.1)
+
+pub dated_some : (d : Dated) (r : List ℕ) → dated_line d ++ r ≡ [] → ⊥
 unfolding id_text
-cursor_some c r h = some_first _ (sym (cursor_is c r) ∙ h)
+dated_some d r h = some_first _ (sym (dated_is d r) ∙ h)
+
+-- the moment at an identifier is one of those that are known, or 0
+small_at : (times : Cursors) (q : List ℕ) → All IsPrintableMoment times → at times q < 2 ^ 64
+small_at [] q all = omega arith
+small_at (t ∷ ts) q all = by (is_eq (identifier_order q t.0)) (small_at ts q (All-tail IsPrintableMoment t ts all))
+  where
+    by : (b : Bool) → at ts q < 2 ^ 64 → cond b t.1 (at ts q) < 2 ^ 64
+    by true rest = All-head IsPrintableMoment t ts all
+    by false rest = rest
+
+pub printable_dated : (times cs : Cursors) → All IsPrintableMoment times → All IsPrintableCursor cs → All IsPrintableDated (with_moments times cs)
+printable_dated times [] moments all = All-nil IsPrintableDated
+printable_dated times (c ∷ cs) moments all =
+    All-cons IsPrintableDated (c, at times c.0) (with_moments times cs)
+    (record { cursor = All-head IsPrintableCursor c cs all; moment = small_at times c.0 moments })
+    (printable_dated times cs moments (All-tail IsPrintableCursor c cs all))
 
 mark_behind : Mark → List ℕ → List ℕ
 mark_behind m r = decimal m.obj ++ (47 ∷ (decimal m.prop ++ (47 ∷ (decimal m.seen ++ (10 ∷ r)))))

@@ -67,11 +67,11 @@ module _ (name : ℕ → Option (List ℕ)) (number : List ℕ → Option ℕ)
       (same m n (name m) (name n) refl refl hm hn d.0, d.1)
 
 classes_plain : list_all (λ (c : Class). is_plain c.name) spoken.classes ≡ true
-unfolding schema_1
+unfolding schema_2
 classes_plain = refl
 
 attributes_plain : list_all (λ (a : Attribute). is_plain a.name) spoken.attributes ≡ true
-unfolding schema_1
+unfolding schema_2
 attributes_plain = refl
 
 pub classes_divide : (m n : ℕ) (r s : List ℕ) → m < 2 ^ 64 → n < 2 ^ 64 → ends is_word r ≡ true → ends is_word s ≡ true → class_token m ++ r ≡ class_token n ++ s → (m ≡ n) × (r ≡ s)

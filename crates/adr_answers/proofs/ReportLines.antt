@@ -6,15 +6,18 @@ use Rattle.std.proofs.lemmas.Fmt.{decimal_injective}
 use Rattle.std.proofs.lemmas.List.{append_cancel_left}
 use Rattle.adr_call.specs.declared.directory.Entry.{Entry}
 use Rattle.adr_values.specs.declared.mark.Mark.{Mark}
+use Rattle.adr_values.specs.Dated.{Dated, cursors_of, moments_of, with_moments}
+use Rattle.adr_values.specs.Vector.{Cursors}
+use Rattle.adr_values.proofs.Dated.{cursors_with, moments_with}
 use Rattle.adr_call.specs.declared.outcome.Outcome.{Outcome}
 use Rattle.adr_call.specs.declared.outcome.Outcome.TheVariants.{Show, Vector, Marks}
-use Rattle.adr_answers.specs.Line.{cursor_line, entry_line, line, partner_line, report_lines, result_text}
+use Rattle.adr_answers.specs.Line.{dated_line, entry_line, line, partner_line, report_lines, result_text}
 use Rattle.adr_answers.specs.Laws.{EqualLinesMeanEqualDirectories, EqualEntryLinesMeanEqualDirectories, LinesAreToldFromWhatFollows, EqualLinesMeanEqualVectors, EqualLinesMeanEqualMarks, report}
-use Rattle.adr_answers.specs.Printable.{IsPrintableCursor, IsPrintableEntry, IsPrintablePartner}
+use Rattle.adr_answers.specs.Printable.{IsPrintableEntry, IsPrintablePartner}
 use Rattle.adr_answers.proofs.Prefixes.{as_many_divide, lists_divide}
 use Rattle.adr_answers.proofs.Tokens.{figures_divide}
 use Rattle.adr_answers.proofs.EntryLines.{entry_divide, entry_some}
-use Rattle.adr_answers.proofs.KnowledgeLines.{cursor_divide, cursor_some, partner_divide, partner_some}
+use Rattle.adr_answers.proofs.KnowledgeLines.{IsPrintableDated, dated_divide, dated_some, printable_dated, partner_divide, partner_some}
 
 -- a report in its pieces: what is the same in each, the number of lines, the lines
 front : List ℕ → List ℕ → List ℕ → List ℕ
@@ -65,10 +68,10 @@ shown_is : (name : List ℕ) (d : List Entry) (r : List ℕ) → report (codes "
 unfolding line result_text report_lines front
 shown_is name d r = flat (codes "show") ((codes " " ++ name)) (codes ": ") (decimal (length d)) (codes "\n") (flat_map entry_line d) r
 
-vector_is : (name : List ℕ) (v : List (List ℕ × ℕ)) (r : List ℕ)
-    → report (codes "vector") name (Vector v []) ++ r ≡ front (codes "vector") name (decimal (length v) ++ (10 ∷ (flat_map cursor_line v ++ r)))
+vector_is : (name : List ℕ) (v t : Cursors) (r : List ℕ)
+    → report (codes "vector") name (Vector v t) ++ r ≡ front (codes "vector") name (decimal (length v) ++ (10 ∷ (flat_map dated_line (with_moments t v) ++ r)))
 unfolding line result_text report_lines front
-vector_is name v r = flat (codes "vector") ((codes " " ++ name)) (codes ": ") (decimal (length v)) (codes "\n") (flat_map cursor_line v) r
+vector_is name v t r = flat (codes "vector") ((codes " " ++ name)) (codes ": ") (decimal (length v)) (codes "\n") (flat_map dated_line (with_moments t v)) r
 
 marks_are : (name : List ℕ) (m : List (List ℕ × List ℕ × Mark)) (r : List ℕ)
     → report (codes "marks") name (Marks m) ++ r ≡ front (codes "marks") name (decimal (length m) ++ (10 ∷ (flat_map partner_line m ++ r)))
@@ -85,9 +88,25 @@ directories_same_below = below_same (codes "show") Show entry_line IsPrintableEn
 pub directories_divide : LinesAreToldFromWhatFollows
 directories_divide = reports_divide (codes "show") Show entry_line IsPrintableEntry shown_is entry_divide entry_some
 
+-- the lines of cursors with their moments
+dated_divides : (ds es : List Dated) → All IsPrintableDated ds → All IsPrintableDated es → flat_map dated_line ds ++ [] ≡ flat_map dated_line es ++ [] → ds ≡ es
+unfolding Nothing
+dated_divides ds es hd he h =
+    (lists_divide dated_line IsPrintableDated (λ (x : List ℕ). Unit {0}) Nothing (λ a b r s ha hb er es h. dated_divide a b r s ha hb h) (λ xs r h. tt) (λ a r s ha er es h. dated_some a r (h ∙ es))
+    ds es [] [] hd he refl refl h).0
+
+vectors_divide : (name : List ℕ) (v w t u : Cursors) → report (codes "vector") name (Vector v t) ≡ report (codes "vector") name (Vector w u)
+    → flat_map dated_line (with_moments t v) ++ [] ≡ flat_map dated_line (with_moments u w) ++ []
+vectors_divide name v w t u h =
+    (figures_divide 10 refl (length v) (length w) (flat_map dated_line (with_moments t v) ++ []) (flat_map dated_line (with_moments u w) ++ [])
+    (front_same (codes "vector") name _ _ (sym (vector_is name v t []) ∙ ap (λ (x : List ℕ). x ++ []) h ∙ vector_is name w u []))).1
+
 pub vectors_same : EqualLinesMeanEqualVectors
-unfolding line result_text report_lines
-vectors_same name v w t u = reports_same (codes "vector") (λ (x : List (List ℕ × ℕ)). Vector x []) cursor_line IsPrintableCursor vector_is cursor_divide cursor_some name v w
+vectors_same name v w t u hv hw ht hu pv pw pt pu h =
+    let same : with_moments t v ≡ with_moments u w = dated_divides (with_moments t v) (with_moments u w) (printable_dated t v pt pv) (printable_dated u w pu pw) (vectors_divide name v w t u h) in (
+      sym (cursors_with t v) ∙ ap cursors_of same ∙ cursors_with u w,
+      sym (moments_with v t hv.rising hv.from_one ht) ∙ ap moments_of same ∙ moments_with w u hw.rising hw.from_one hu,
+    )
 
 pub marks_same : EqualLinesMeanEqualMarks
 marks_same = reports_same (codes "marks") Marks partner_line IsPrintablePartner marks_are partner_divide partner_some

@@ -6,12 +6,14 @@ use Rattle.adr_values.specs.declared.content.Value.TheVariants.{Text, Number, Fl
 use Rattle.adr_values.specs.Allowed.{IsAllowed}
 use Rattle.adr_values.specs.Numbered.{numbered}
 use Rattle.adr_values.specs.Table.{class_at, is_forward, kind_at}
+use Rattle.adr_values.specs.Times.{AreTimesOf}
+use Rattle.adr_values.specs.Vector.{Cursors, IsVector}
 use Rattle.adr_call.specs.declared.outcome.Outcome.{Outcome}
 use Rattle.adr_call.specs.declared.outcome.Outcome.TheVariants.{Show, Vector, Marks}
 use Rattle.adr_call.specs.declared.directory.Entry.{Entry}
 use Rattle.adr_token.specs.Laws.{IsIdentifier}
 use Rattle.adr_answers.specs.Line.{line, report_lines}
-use Rattle.adr_answers.specs.Printable.{IsPrintable, IsPrintableCursor, IsPrintablePartner, ArePrintableValues, ArePrintableLinks}
+use Rattle.adr_answers.specs.Printable.{IsPrintable, IsPrintableCursor, IsPrintableMoment, IsPrintablePartner, ArePrintableValues, ArePrintableLinks}
 
 -- what a report writes
 abbrev pub report : List ℕ → List ℕ → Outcome → List ℕ
@@ -33,10 +35,11 @@ abbrev pub LinesAreToldFromWhatFollows : Type 0
 LinesAreToldFromWhatFollows = (name : List ℕ) (d e : List Entry) (rest more : List ℕ) → IsPrintable d → IsPrintable e → length d < 2 ^ 64 → length e < 2 ^ 64
     → shown name d ++ rest ≡ shown name e ++ more → (d ≡ e) × (rest ≡ more)
 
--- the times beside the vectors aren't told
+-- of vectors with the times beside them
 abbrev pub EqualLinesMeanEqualVectors : Type 0
-EqualLinesMeanEqualVectors = (name : List ℕ) (v w t u : List (List ℕ × ℕ)) → All IsPrintableCursor v → All IsPrintableCursor w
-    → report (codes "vector") name (Vector v t) ≡ report (codes "vector") name (Vector w u) → v ≡ w
+EqualLinesMeanEqualVectors = (name : List ℕ) (v w t u : Cursors) → IsVector v → IsVector w → AreTimesOf v t → AreTimesOf w u
+    → All IsPrintableCursor v → All IsPrintableCursor w → All IsPrintableMoment t → All IsPrintableMoment u
+    → report (codes "vector") name (Vector v t) ≡ report (codes "vector") name (Vector w u) → (v ≡ w) × (t ≡ u)
 
 abbrev pub EqualLinesMeanEqualMarks : Type 0
 EqualLinesMeanEqualMarks = (name : List ℕ) (m n : List (List ℕ × List ℕ × Mark)) → All IsPrintablePartner m → All IsPrintablePartner n

@@ -3,6 +3,7 @@ use Rattle.std.specs.Prelude.{ℕ, List, Bool, true, false, [], ◌∷◌, ◌++
 use Rattle.std.specs.Fmt.{decimal}
 use Rattle.adr_values.specs.declared.content.Value.{Value as Item}
 use Rattle.adr_values.specs.declared.mark.Mark.{Mark}
+use Rattle.adr_values.specs.Dated.{Dated, with_moments}
 use Rattle.adr_call.specs.declared.answer.Answer.{Answer}
 use Rattle.adr_call.specs.declared.outcome.Field.{Field}
 use Rattle.adr_call.specs.declared.outcome.Plainly.{Plainly}
@@ -40,9 +41,9 @@ entry_line e =
 unfoldable pub mark_text : Mark → List ℕ
 mark_text m = decimal m.obj ++ codes "/" ++ decimal m.prop ++ codes "/" ++ decimal m.seen
 
--- the line of an incarnation: what was seen of it
-unfoldable pub cursor_line : List ℕ × ℕ → List ℕ
-cursor_line c = codes "  " ++ identifier_token c.0 ++ codes " " ++ decimal c.1 ++ codes "\n"
+-- the line of an incarnation: what was seen of it, and when it was last read whole, 0 where that isn't known
+unfoldable pub dated_line : Dated → List ℕ
+dated_line d = codes "  " ++ identifier_token d.0.0 ++ codes " " ++ decimal d.0.1 ++ codes " " ++ decimal d.1 ++ codes "\n"
 
 -- the line of a partner: the incarnation that was read, and how far
 unfoldable pub partner_line : List ℕ × List ℕ × Mark → List ℕ
@@ -113,10 +114,10 @@ result_text Stopped = codes "stopped"
 result_text Absent = codes "absent"
 result_text (Refused number label fields) = codes "refused " ++ decimal number ++ codes " " ++ label ++ flat_map field_text fields
 
--- the lines behind an answer's line; of a vector its times aren't written yet
+-- the lines behind an answer's line
 unfoldable pub report_lines : Outcome → List ℕ
 report_lines (Show entries) = flat_map entry_line entries
-report_lines (Vector vector times) = flat_map cursor_line vector
+report_lines (Vector vector times) = flat_map dated_line (with_moments times vector)
 report_lines (Marks marks) = flat_map partner_line marks
 report_lines (Meta lines) = flat_map meta_line lines
 report_lines _ = []

@@ -1,4 +1,4 @@
--- What is needed of an entry, of a cursor and of a mark so that no other one has its line.
+-- What is needed of an entry, of a cursor, of a moment and of a mark so that no other one has its line.
 use Rattle.std.specs.Prelude.{◌≡◌, ◌<◌, ◌^◌, ℕ, List, true, false, All}
 use Rattle.std.specs.Int.Signed.{mag}
 use Rattle.adr_values.specs.declared.content.Value.{Value as Item}
@@ -55,6 +55,10 @@ IsPrintable d = All IsPrintableEntry d
 pub record IsPrintableCursor (c : List ℕ × ℕ) : Type 0 where
   pub inv : IsIdentifier c.0
   pub usn : c.1 < 2 ^ 64
+
+-- an incarnation with the moment at which it was last read whole; whose it is the vector's cursor tells
+abbrev pub IsPrintableMoment : List ℕ × ℕ → Type 0
+IsPrintableMoment m = m.1 < 2 ^ 64
 
 -- a partner with the incarnation that was read, and how far
 pub record IsPrintablePartner (p : List ℕ × List ℕ × Mark) : Type 0 where

@@ -1,14 +1,16 @@
 //! The lines of what a controller has seen, and of how far it has read its partners.
 
-ghost use Rattle.std.specs.Prelude.{◌≡◌, ◌++◌, ◌+◌, OnOk, codes, length};
+ghost use Rattle.std.specs.Prelude.{◌≡◌, ◌++◌, ◌+◌, OnOk, codes, flat_map, length};
 ghost use Rattle.std.specs.Fmt.{decimal};
+ghost use Rattle.adr_values.specs.Dated.{with_moments};
+ghost use Rattle.adr_values.specs.Vector.{IsVector};
 ghost use Rattle.adr_token.specs.Room.{TakesRoom};
 ghost use Rattle.adr_token.specs.Spelling.{identifier_token};
-ghost use Rattle.adr_answers.specs.Line.{mark_text, cursor_line, partner_line};
+ghost use Rattle.adr_answers.specs.Line.{dated_line, mark_text, partner_line};
 
 use crate::each::PushText;
 use adr_token::{push, push_identifier, push_number};
-use adr_values::{Guid, Mark, NoMemory};
+use adr_values::{Guid, Mark, NoMemory, Times};
 
 /// Adds a number behind some text.
 pub fn push_number_behind(out: &mut Vec<u8>, text: &[u8], number: u64) -> Result<(), NoMemory>
@@ -46,16 +48,27 @@ fn push_first_identifier(out: &mut Vec<u8>, id: Guid) -> Result<(), NoMemory>
     push(out, b" ")
 }
 
-// A vector's cursor.
-impl PushText for (Guid, u64) {
-    ghost text = { cursor_line };
+/// Adds a cursor with its moment.
+#[tactic(auto, unfolding(crate::specs::Line::dated_line))]
+fn push_one_dated(out: &mut Vec<u8>, cursor: (Guid, u64), moment: u64) -> Result<(), NoMemory>
+    ensures { OnOk result (out.new.items ≡ out.old.items ++ dated_line (cursor, moment)) }
+{
+    push_first_identifier(out, cursor.0)?;
+    push_number(out, cursor.1)?;
+    push_number_behind(out, b" ", moment)?;
+    push(out, b"\n")
+}
 
-    #[tactic(auto, unfolding(crate::specs::Line::cursor_line))]
-    fn push_to(&self, out: &mut Vec<u8>) -> Result<(), NoMemory> {
-        push_first_identifier(out, self.0)?;
-        push_number(out, self.1)?;
-        push(out, b"\n")
+/// Adds cursors, each with the moment that is known of it. Both rise, and each is read once.
+pub fn push_dated(out: &mut Vec<u8>, cursors: &[(Guid, u64)], times: &Times) -> Result<(), NoMemory>
+    requires { IsVector cursors.now }
+    ensures { OnOk result (out.new.items ≡ out.old.items ++ flat_map dated_line (with_moments times.now cursors.now)) }
+{
+    let mut moments = times.walk();
+    for cursor in cursors {
+        push_one_dated(out, *cursor, moments.at(cursor.0))?;
     }
+    Ok(())
 }
 
 // A partner's mark.

@@ -9,7 +9,7 @@ pub fn equal_lines_mean_equal_directories()
     ensures followed { LinesAreToldFromWhatFollows }
 {}
 
-/// What a `vector` or a `marks` writes tells the cursors or the marks.
+/// What a `vector` writes tells the cursors and their moments, and what a `marks` writes the marks.
 pub fn equal_lines_mean_equal_knowledge()
     ensures vectors { EqualLinesMeanEqualVectors }
     ensures marks { EqualLinesMeanEqualMarks }

@@ -8,7 +8,7 @@ ghost use Rattle.adr_answers.specs.Room.{HasNoReport, field_room, line_room, pla
 ghost use Rattle.adr_answers.specs.Line.{plain_text, from_to, left_text, counts_text, truth_text, field_text, result_text, report_lines, line, nameless_line};
 
 use crate::each::push_each;
-use crate::knowledge::{push_mark, push_number_behind};
+use crate::knowledge::{push_dated, push_mark, push_number_behind};
 use adr_call::{Answer, Field, Outcome, Plainly};
 use adr_token::{push, push_attribute, push_identifier, push_number};
 use adr_values::{Mark, NoMemory};
@@ -194,7 +194,7 @@ fn push_result(out: &mut Vec<u8>, outcome: &Outcome) -> Result<(), NoMemory>
     }
 }
 
-/// Adds the lines behind an answer's line; of a vector its times aren't written yet.
+/// Adds the lines behind an answer's line.
 #[tactic(auto, unfolding(crate::specs::Line::report_lines))]
 fn push_report(out: &mut Vec<u8>, outcome: &Outcome) -> Result<(), NoMemory>
     ensures items { OnOk result (out.new.items ≡ out.old.items ++ report_lines outcome.now) }
@@ -202,7 +202,7 @@ fn push_report(out: &mut Vec<u8>, outcome: &Outcome) -> Result<(), NoMemory>
 {
     match outcome {
         Outcome::Show(directory) => push_each(out, directory.entries()),
-        Outcome::Vector { vector, .. } => push_each(out, vector.cursors()),
+        Outcome::Vector { vector, times } => push_dated(out, vector.cursors(), times),
         Outcome::Marks(marks) => push_each(out, marks.items()),
         Outcome::Meta(lines) => push_each(out, lines.items()),
         _ => Ok(()),

@@ -1,3 +1,2 @@
 pub mod Few
 pub mod Verbs
-pub mod Supported

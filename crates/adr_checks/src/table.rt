@@ -120,7 +120,7 @@ pub fn table_numbered(number: u32) -> Option<&'static TableData>
 pub fn spoken_table() -> &'static TableData
     ensures { table_of result.now ≡ spoken }
 {
-    table_1()
+    table_2()
 }
 
 impl TableData {

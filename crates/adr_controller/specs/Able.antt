@@ -1,5 +1,5 @@
 -- Which changes a controller can commit.
-use Rattle.std.specs.Prelude.{◌≡◌, ℕ, Bool, true, false, Option, Some, None, Result, Ok, Err}
+use Rattle.std.specs.Prelude.{◌≡◌, ℕ, List, Bool, true, false, Option, Some, None, Result, Ok, Err}
 use Rattle.std.specs.Bool.{then_some}
 use Rattle.adr_call.specs.declared.refusal.ServeRefusal.{ServeRefusal}
 use Rattle.adr_call.specs.declared.refusal.ServeRefusal.TheVariants as serves
@@ -7,12 +7,14 @@ use Rattle.adr_call.specs.declared.refusal.TakeRefusal.{TakeRefusal}
 use Rattle.adr_call.specs.declared.refusal.TakeRefusal.TheVariants as takes
 use Rattle.adr_call.specs.declared.call.Call.{Call}
 use Rattle.adr_call.specs.declared.write.Write.{Write as Asked}
-use Rattle.adr_model.specs.Store.{State}
+use Rattle.adr_model.specs.Store.{State, Store}
+use Rattle.adr_model.specs.Update.{Identifier}
 use Rattle.adr_model.specs.Change.{Change, after}
 use Rattle.adr_model.specs.Serve.{Request, Reply, serve}
 use Rattle.adr_model.specs.Take.{take}
-use Rattle.adr_model.specs.Write.{write, write_meant}
+use Rattle.adr_model.specs.Write.{Revive, write, write_meant}
 use Rattle.adr_model.specs.Collect.{collect, quarantine}
+use Rattle.adr_model.specs.Upgrade.{upgrade}
 use Rattle.adr_model.specs.Replica.{change_in, change_of}
 use Rattle.adr_model.specs.Client.{call_meant}
 use Rattle.adr_state.specs.Refusal.{IsOverfull}
@@ -67,3 +69,10 @@ taken_in reply s = change_of_taken s (take s reply)
 
 abbrev pub collected_in : ℕ → ℕ → State → Option Change
 collected_in now lifetime s = change_in (collect s now lifetime)
+
+abbrev pub upgraded_in : State → Option Change
+upgraded_in s = change_in (upgrade s)
+
+-- an object of an image that comes again under this parent and text, at a time
+abbrev pub revived_in : Store → Identifier → Identifier → List ℕ → ℕ → State → Option Change
+revived_in image guid parent text now s = change_in (write s (Revive image guid parent text) now)

@@ -11,11 +11,16 @@ mod controller;
 mod keeping;
 mod messages;
 mod refusal;
+mod reviving;
+mod upgrading;
 mod writing;
 
-pub use adr_call::{CollectRefusal, ServeRefusal, TakeRefusal, Write, WriteRefusal};
+pub use adr_call::{
+    CollectRefusal, ServeRefusal, TakeRefusal, UpgradeRefusal, Write, WriteRefusal,
+};
 pub use adr_cycle::{Reply, Request};
 pub use adr_journal::{Keeper, KeeperRefusal, StartRefusal};
+pub use adr_revival::{Archive, Revival};
 pub use adr_state::{Change, State};
 pub use controller::Controller;
 pub use messages::Taken;

@@ -1,6 +1,6 @@
 //! Messages between controllers.
 
-ghost use Rattle.std.specs.Prelude.{◌≡◌, ◌↔◌, ◌≤◌, ℕ, true, false, Some, None, Ok, Err, IfOk, IfErr, IsErrOf, IsSome, length};
+ghost use Rattle.std.specs.Prelude.{◌≡◌, ◌↔◌, ◌≤◌, true, false, Some, None, Ok, Err, IfOk, IfErr, IsErrOf, IsSome, length};
 ghost use Rattle.std.specs.Option.{ForSome};
 ghost use Rattle.adr_call.specs.declared.refusal.ServeRefusal.{ServeRefusal};
 ghost use Rattle.adr_call.specs.declared.refusal.TakeRefusal.{TakeRefusal};
@@ -111,10 +111,17 @@ impl<K: Keeper> Controller<K> {
         }
     }
 
-    /// What it asks a partner: the changes behind the mark that it has of the partner, at most `max` items in one reply.
-    pub fn ask(&self, alloc: Global, partner: Guid, max: u32) -> Result<Request, Hindrance>
+    /// What it asks a partner: the changes behind the mark that it has of the partner, at most `max` items in one reply,
+    /// in a version of the protocol.
+    pub fn ask(
+        &self,
+        alloc: Global,
+        partner: Guid,
+        max: u32,
+        version: u16,
+    ) -> Result<Request, Hindrance>
         ensures ok { IfOk result (λ request.
-            (s : Defined) × (self.now.state ≡ Some s) × (request ≡ ask s partner max 1)) }
+            (s : Defined) × (self.now.state ≡ Some s) × (request ≡ ask s partner max version)) }
         ensures down { (hindrance_of result ≡ Some Hindrance.Down) ↔ (self.now.down ≡ true) }
         ensures failed { (hindrance_of result ≡ Some Hindrance.Failed)
             ↔ ((self.now.down ≡ false) × (self.now.state ≡ None)) }
@@ -122,35 +129,37 @@ impl<K: Keeper> Controller<K> {
             → IfErr result (λ hindrance. hindrance ≡ Hindrance.NoMemory) }
     {
         let state = self.running()?;
-        match ask(alloc, state, partner, max) {
+        match ask(alloc, state, partner, max, version) {
             Ok(request) => Ok(request),
             Err(_) => Err(Hindrance::NoMemory),
         }
     }
 
-    /// What a request is answered, at whatever time. A controller that shows that it was put back is quarantined before it refuses.
+    /// What a request is answered at a time in seconds. A controller that shows that it was put back is quarantined
+    /// before it refuses.
     pub fn serve(
         &mut self,
         alloc: Global,
         request: &Request,
+        now: u64,
     ) -> Result<Reply, CallRefusal<ServeRefusal>>
-        requires follows { (now : ℕ) → AllFollow K.Keeper (served_in request.now now) }
+        requires follows { AllFollow K.Keeper (served_in request.now now) }
         ensures served { IfOk result (λ reply.
-            (s : Defined) (now : ℕ) → self.old.state ≡ Some s → serve s request.now now ≡ Ok reply) }
-        ensures refused { (s : Defined) (refusal : ServeRefusal) (now : ℕ) → self.old.state ≡ Some s
+            (s : Defined) → self.old.state ≡ Some s → serve s request.now now ≡ Ok reply) }
+        ensures refused { (s : Defined) (refusal : ServeRefusal) → self.old.state ≡ Some s
             → IsErrOf result (CallRefusal.Refused refusal) → serve s request.now now ≡ Err refusal }
 
         // Want of memory never stands for a refusal. One that shows that it was put back is answered behind the quarantine.
-        ensures exact { (s : Defined) (refusal : ServeRefusal) (now : ℕ) → self.old.state ≡ Some s
+        ensures exact { (s : Defined) (refusal : ServeRefusal) → self.old.state ≡ Some s
             → request_shows refusal ≡ false → serve s request.now now ≡ Err refusal
             → IsErrOf result (CallRefusal.Refused refusal) }
         ensures put_back { (s : Defined) (refusal : ServeRefusal) → self.old.state ≡ Some s
             → IsErrOf result (CallRefusal.Refused refusal) → request_shows refusal ≡ true
             → self.new.state ≡ Some (after s (quarantine s)) }
-        ensures calls { (now : ℕ) → Calls K.Keeper (served_in request.now now) self.old self.new (call_hindrance result) }
+        ensures calls { Calls K.Keeper (served_in request.now now) self.old self.new (call_hindrance result) }
     {
         let state = self.running()?;
-        match serve(alloc, state, request) {
+        match serve(alloc, state, request, now) {
             Ok(reply) => Ok(reply),
             Err(Failure::NoMemory) => Err(CallRefusal::Hindered(Hindrance::NoMemory)),
             Err(Failure::Refused(refusal)) => {

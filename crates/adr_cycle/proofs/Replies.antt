@@ -37,22 +37,13 @@ module _ (rows : List Held) (from : Mark) (asked : Cursors) (most last : ℕ) (s
       by : List Held → Mark → Cursors → ℕ → Reply
       by r f v m = reply_of s q now f (first_items m byte_limit (candidates r f v)) (length (first_items m byte_limit (candidates r f v)) == length (candidates r f v))
 
--- one of the first version tells no times
-none_told : (last : Bool) (version : ℕ) (times : Cursors) → version ≡ 1 → cond (last && (version == 2)) times [] ≡ []
-none_told false version times is = refl
-none_told true version times is = ap (λ v. cond (v == 2) times []) is
-
--- where it tells none, none are brought
-pub none_brought : (r : Reply) → r.times ≡ [] → times_brought r ≡ []
-none_brought r none = elim (r.last) as (λ last. cond (is_some last) r.times [] ≡ []) [ None ↦ refl | Some carried ↦ none ]
-
 -- a reply is made of its parts
-pub made_of : (s : State) (q : Request) (now : ℕ) (from : Mark) (sent : List (ℕ × Item)) (last : Bool) (x : Reply) (dest source inv : Identifier) (to : Mark) (schema : ℕ) (asked : Cursors) (vector : Option Cursors) (items : List Item)
-    → x ≡ record { version = 1; dest = dest; source = source; inv = inv; from = from; to = to; schema = schema; asked = asked; last = vector; times = []; items = items }
-    → q.version ≡ 1 → dest ≡ q.dest → source ≡ s.dsa → inv ≡ s.inv → to ≡ (reply_of s q now from sent last).to → schema ≡ s.store.schema → asked ≡ q.vector → vector ≡ then_some last s.store.vector → items ≡ map (λ (c : ℕ × Item). c.1) sent
+pub made_of : (s : State) (q : Request) (now : ℕ) (from : Mark) (sent : List (ℕ × Item)) (last : Bool) (x : Reply) (version : ℕ) (dest source inv : Identifier) (to : Mark) (schema : ℕ) (asked : Cursors) (vector : Option Cursors) (times : Cursors) (items : List Item)
+    → x ≡ record { version = version; dest = dest; source = source; inv = inv; from = from; to = to; schema = schema; asked = asked; last = vector; times = times; items = items }
+    → version ≡ q.version → dest ≡ q.dest → source ≡ s.dsa → inv ≡ s.inv → to ≡ (reply_of s q now from sent last).to → schema ≡ s.store.schema → asked ≡ q.vector → vector ≡ then_some last s.store.vector
+    → times ≡ (reply_of s q now from sent last).times → items ≡ map (λ (c : ℕ × Item). c.1) sent
     → x ≡ reply_of s q now from sent last
-made_of s q now from sent last x dest source inv to schema asked vector items is its_version its_dest its_source its_inv its_to its_schema its_asked its_vector its_items =
-    let none : cond (last && (q.version == 2)) (times_told s now) [] ≡ [] = none_told last q.version (times_told s now) its_version in
+made_of s q now from sent last x version dest source inv to schema asked vector times items is its_version its_dest its_source its_inv its_to its_schema its_asked its_vector its_times its_items =
     let made : x ≡ record {
       version = q.version;
       dest = q.dest;
@@ -63,7 +54,7 @@ made_of s q now from sent last x dest source inv to schema asked vector items is
       schema = s.store.schema;
       asked = q.vector;
       last = then_some last s.store.vector;
-      times = cond (last && (q.version == 2)) (times_told s now) [];
+      times = (reply_of s q now from sent last).times;
       items = map (λ (c : ℕ × Item). c.1) sent;
     } = cc in
     made

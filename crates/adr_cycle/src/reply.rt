@@ -1,16 +1,17 @@
 //! A reply: what a partner answers to a request.
 
-ghost use Rattle.std.specs.Prelude.{◌≡◌, []};
+ghost use Rattle.std.specs.Prelude.{◌≡◌};
 ghost use Rattle.std.specs.Option.{option_copied};
 
 use adr_state::Item;
-use adr_values::{Guid, Mark, Vector};
+use adr_values::{Guid, Mark, Times, Vector};
 use std::marker::Model;
 
 /// A reply (MS-DRSR, DRS_MSG_GETCHGREPLY): to whom it goes, from whom and from which incarnation, the marks between
 /// which it lies, the number of the source's schema, what the asker had seen, what the source has seen if nothing is
 /// left to send, and the items.
 pub struct Reply {
+    version: u16,
     dest: Guid,
     source: Guid,
     inv: Guid,
@@ -19,12 +20,14 @@ pub struct Reply {
     schema: u32,
     asked: Vector,
     last: Option<Vector>,
+    times: Times,
     items: Vec<Item>,
 }
 
 impl Drop for Reply {
     fn drop(self) {
         let Reply {
+            version: _,
             dest: _,
             source: _,
             inv: _,
@@ -33,6 +36,7 @@ impl Drop for Reply {
             schema: _,
             asked: _asked,
             last: _last,
+            times: _times,
             items: _items,
         } = self;
     }
@@ -43,13 +47,12 @@ impl Model for Reply {
 
     ghost Value = { Defined };
 
-    ghost use Rattle.std.specs.Prelude.{[]};
-
-    ghost view = { λ r. record { version = 1; dest = r.dest; source = r.source; inv = r.inv; from = r.from; to = r.to; schema = r.schema; asked = r.asked; last = r.last; times = []; items = r.items.items } };
+    ghost view = { λ r. record { version = r.version; dest = r.dest; source = r.source; inv = r.inv; from = r.from; to = r.to; schema = r.schema; asked = r.asked; last = r.last; times = r.times; items = r.items.items } };
 }
 
 impl Reply {
     pub fn new(
+        version: u16,
         dest: Guid,
         source: Guid,
         inv: Guid,
@@ -58,12 +61,14 @@ impl Reply {
         schema: u32,
         asked: Vector,
         last: Option<Vector>,
+        times: Times,
         items: Vec<Item>,
     ) -> Reply
         ensures { result
-            ≡ record { version = 1; dest = dest; source = source; inv = inv; from = from; to = to; schema = schema; asked = asked; last = last; times = []; items = items.items } }
+            ≡ record { version = version; dest = dest; source = source; inv = inv; from = from; to = to; schema = schema; asked = asked; last = last; times = times; items = items.items } }
     {
         Reply {
+            version,
             dest,
             source,
             inv,
@@ -72,16 +77,23 @@ impl Reply {
             schema,
             asked,
             last,
+            times,
             items,
         }
     }
 
-    /// A reply is of the first version, which tells no times.
-    pub fn tells_no_times(&self)
-        ensures version { self.now.version ≡ 1 }
-        ensures times { self.now.times ≡ [] }
+    /// The version of the protocol.
+    pub fn version(&self) -> u16
+        ensures { result ≡ self.now.version }
     {
-        let _ = &self.schema;
+        self.version
+    }
+
+    /// When the source last read each incarnation whole, in the last reply of version 2.
+    pub fn times(&self) -> &Times
+        ensures { result.now ≡ self.now.times }
+    {
+        &self.times
     }
 
     /// The controller that asked.

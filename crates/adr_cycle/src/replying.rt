@@ -1,29 +1,37 @@
 //! The reply to a request that isn't refused.
 
-ghost use Rattle.std.specs.Prelude.{◌≡◌, ℕ, fold, map, IfOk, if◌then◌else◌};
+ghost use Rattle.std.specs.Prelude.{◌≡◌, ℕ, [], ◌&&◌, ◌==◌, fold, map, IfOk, if◌then◌else◌};
 ghost use Rattle.std.specs.Bool.{then_some};
 ghost use Rattle.adr_model.specs.Change.{Item as Defined};
-ghost use Rattle.adr_model.specs.Serve.{begins_at, byte_limit, candidates, first_items, reply_of, reply_to};
+ghost use Rattle.adr_model.specs.Serve.{begins_at, byte_limit, candidates, first_items, reply_of, reply_to, times_told};
 
 use crate::candidates::{is_none_behind, next_candidate};
 use crate::{NoMemory, Reply, Request};
 use adr_state::{Item, PartnerMark, Rows, State, item_length_within};
-use adr_values::{Mark, Vector};
+use adr_values::{Mark, Times, Vector};
 use std::alloc::Global;
 
 /// The bytes of items at which a reply is cut: 4 MiB.
 const BYTE_LIMIT: u64 = 4_194_304;
 
-/// The reply to a request, at any moment.
-pub fn reply_to(alloc: Global, state: &State, request: &Request) -> Result<Reply, NoMemory>
-    ensures { IfOk result (λ reply. (now : ℕ) → reply ≡ reply_to state.now request.now now) }
+/// The version of the protocol whose last replies tell times.
+const TIMED: u16 = 2;
+
+/// The reply to a request at this moment.
+pub fn reply_to(
+    alloc: Global,
+    state: &State,
+    request: &Request,
+    now: u64,
+) -> Result<Reply, NoMemory>
+    ensures { IfOk result (λ reply. reply ≡ reply_to state.now request.now now) }
 {
     let from = begins_at(state, request);
     let asked = request.vector();
     let sent = first_items(alloc, state.rows(), from, asked, request.max())?;
     let last = last_sent(from.obj, sent.as_slice());
     let is_last = is_none_behind(alloc, state.rows(), from, asked, last)?;
-    reply_of(alloc, state, request, from, sent, is_last)
+    reply_of(alloc, state, request, now, from, sent, is_last)
 }
 
 /// Where the reply begins: the mark of the request, if it is one of this incarnation.
@@ -59,20 +67,21 @@ fn first_items(
     Ok(sent)
 }
 
-/// A reply that sends these of the candidates, at any moment: it tells no times.
+/// A reply that sends these of the candidates.
 fn reply_of(
     alloc: Global,
     state: &State,
     request: &Request,
+    now: u64,
     from: Mark,
     sent: Vec<(u64, Item)>,
     is_last: bool,
 ) -> Result<Reply, NoMemory>
-    ensures { IfOk result (λ reply. (now : ℕ) → reply ≡ reply_of state.now request.now now from sent.items is_last) }
+    ensures { IfOk result (λ reply. reply ≡ reply_of state.now request.now now from sent.items is_last) }
 {
-    request.is_of_version_1();
     let to = mark_after(state, from, sent.as_slice(), is_last);
     Ok(Reply::new(
+        request.version(),
         request.dest(),
         state.dsa(),
         state.inv(),
@@ -81,6 +90,7 @@ fn reply_of(
         state.schema().number(),
         request.vector().copy(alloc)?,
         vector_if(alloc, is_last, state)?,
+        times_if(alloc, is_last, state, request, now)?,
         items_of(alloc, sent)?,
     ))
 }
@@ -144,6 +154,39 @@ fn vector_if(alloc: Global, is_last: bool, state: &State) -> Result<Option<Vecto
     } else {
         Ok(None)
     }
+}
+
+/// The controller's own times, in the last reply, where the protocol's version tells times.
+fn times_if(
+    alloc: Global,
+    is_last: bool,
+    state: &State,
+    request: &Request,
+    now: u64,
+) -> Result<Times, NoMemory>
+    ensures { IfOk result (λ times. times ≡ (if is_last && (request.now.version == 2) then times_told state.now now else [])) }
+{
+    if is_last && request.version() == TIMED {
+        times_told(alloc, state, now)
+    } else {
+        Ok(Times::new(alloc))
+    }
+}
+
+/// The controller's own times, and this moment as that of its own cursor, where it has one.
+fn times_told(alloc: Global, state: &State, now: u64) -> Result<Times, NoMemory>
+    ensures { IfOk result (λ times. times ≡ times_told state.now now) }
+{
+    state
+        .times()
+        .told(alloc, state.inv(), own_moment(state, now))
+}
+
+/// The moment that is told of the own cursor: 0 where there is none.
+fn own_moment(state: &State, now: u64) -> u64
+    ensures { result ≡ (if state.now.store.usn == 0 then 0 else now) }
+{
+    if state.usn() == 0 { 0 } else { now }
 }
 
 /// The items alone.

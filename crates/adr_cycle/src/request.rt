@@ -5,11 +5,12 @@ ghost use Rattle.std.specs.Prelude.{◌≡◌};
 use adr_values::{Guid, Mark, Vector};
 use std::marker::Model;
 
-/// A request for changes (MS-DRSR, DRS_MSG_GETCHGREQ): who asks, which partner, the incarnation of the partner's
+/// A request for changes (MS-DRSR, DRS_MSG_GETCHGREQ): the version of the protocol, who asks, which partner, the incarnation of the partner's
 /// database that was read and how far, the number of the asker's schema, how many items a reply has at most, and what
 /// the asker has seen.
 #[derive(Drop)]
 pub struct Request {
+    version: u16,
     dest: Guid,
     source: Guid,
     inv: Guid,
@@ -24,11 +25,12 @@ impl Model for Request {
 
     ghost Value = { Defined };
 
-    ghost view = { λ q. record { version = 1; dest = q.dest; source = q.source; inv = q.inv; mark = q.mark; schema = q.schema; max = q.max; vector = q.vector } };
+    ghost view = { λ q. record { version = q.version; dest = q.dest; source = q.source; inv = q.inv; mark = q.mark; schema = q.schema; max = q.max; vector = q.vector } };
 }
 
 impl Request {
     pub fn new(
+        version: u16,
         dest: Guid,
         source: Guid,
         inv: Guid,
@@ -38,9 +40,10 @@ impl Request {
         vector: Vector,
     ) -> Request
         ensures { result
-            ≡ record { version = 1; dest = dest; source = source; inv = inv; mark = mark; schema = schema; max = max; vector = vector } }
+            ≡ record { version = version; dest = dest; source = source; inv = inv; mark = mark; schema = schema; max = max; vector = vector } }
     {
         Request {
+            version,
             dest,
             source,
             inv,
@@ -51,11 +54,11 @@ impl Request {
         }
     }
 
-    /// A request is of the first version.
-    pub fn is_of_version_1(&self)
-        ensures { self.now.version ≡ 1 }
+    /// The version of the protocol, in which the reply is made too.
+    pub fn version(&self) -> u16
+        ensures { result ≡ self.now.version }
     {
-        let _ = &self.max;
+        self.version
     }
 
     /// The controller that asks, and to which the reply goes.

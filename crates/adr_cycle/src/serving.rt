@@ -1,6 +1,6 @@
 //! What a controller answers to a request.
 
-ghost use Rattle.std.specs.Prelude.{◌≡◌, ◌↔◌, ℕ, ◌&&◌, ◌==◌, Ok, Err, IfOk, IsErrOf, nat_le, nat_lt, not};
+ghost use Rattle.std.specs.Prelude.{◌≡◌, ◌↔◌, ◌&&◌, ◌==◌, Ok, Err, IfOk, IsErrOf, nat_le, nat_lt, not};
 ghost use Rattle.std.specs.Bool.{then_some};
 ghost use Rattle.std.specs.Option.{option_map};
 ghost use Rattle.adr_values.specs.Vector.{first_gap};
@@ -15,20 +15,21 @@ use adr_state::{State, is_same};
 use adr_values::Mark;
 use std::alloc::Global;
 
-/// What a request is answered, at any moment: the reply, or the first refusal in order (MS-DRSR, GetNCChanges; the refusals, and how
+/// What a request is answered at this moment: the reply, or the first refusal in order (MS-DRSR, GetNCChanges; the refusals, and how
 /// marks move, are this project's own profile).
 pub fn serve(
     alloc: Global,
     state: &State,
     request: &Request,
+    now: u64,
 ) -> Result<Reply, Failure<ServeRefusal>>
-    ensures ok { IfOk result (λ reply. (now : ℕ) → serve state.now request.now now ≡ Ok reply) }
-    ensures refused { (refusal : ServeRefusal) (now : ℕ)
+    ensures ok { IfOk result (λ reply. serve state.now request.now now ≡ Ok reply) }
+    ensures refused { (refusal : ServeRefusal)
         → IsErrOf result (Failure.Refused refusal) ↔ (serve state.now request.now now ≡ Err refusal) }
 {
     match serve_refusal(state, request) {
         Some(refusal) => Err(Failure::Refused(refusal)),
-        None => Ok(reply_to(alloc, state, request)?),
+        None => Ok(reply_to(alloc, state, request, now)?),
     }
 }
 

@@ -3,7 +3,7 @@
 ghost use Rattle.std.specs.Prelude.{◌≡◌, ◌≤◌, [], None, Some, Ok, Err, IfOk, IsErrOf, unwrap_or};
 ghost use Rattle.adr_call.specs.declared.refusal.TakeRefusal.{TakeRefusal};
 ghost use Rattle.adr_model.specs.Change.{after};
-ghost use Rattle.adr_model.specs.Take.{over_limit, take_refusal, same_mark, shown_by_last, take, taken_change};
+ghost use Rattle.adr_model.specs.Take.{over_limit, take_refusal, same_mark, shown_by_last, take, taken_change, times_brought};
 ghost use Rattle.adr_model.specs.Write.{usn_limit};
 ghost use Rattle.adr_cycle.specs.ReplyRefused.{refusal_before};
 
@@ -141,8 +141,7 @@ fn over_limit(table: Table, limit: u64, count: usize) -> Option<TakeRefusal>
     }
 }
 
-/// The change of a taken reply; the last one brings the source's vector.
-#[tactic(auto, using(crate::proofs::Replies::none_brought))]
+/// The change of a taken reply; the last one brings the source's vector and its times.
 fn taken_change(
     alloc: Global,
     state: &State,
@@ -151,8 +150,8 @@ fn taken_change(
 ) -> Result<Change, NoMemory>
     ensures { IfOk result (λ change. change ≡ taken_change state.now reply.now taking.entry) }
 {
-    reply.tells_no_times();
     let joined = joined_by(alloc, reply)?;
+    let times = times_brought(alloc, reply)?;
     let mark = PartnerMark::new(reply.inv(), reply.to());
     Ok(Change::new(
         taking.usn(),
@@ -160,7 +159,7 @@ fn taken_change(
         state.schema(),
         Some((reply.source(), mark)),
         joined,
-        Times::new(alloc),
+        times,
         Vector::new(alloc),
         Vec::new(alloc),
         taking.into_writes(),
@@ -174,5 +173,16 @@ fn joined_by(alloc: Global, reply: &Reply) -> Result<Vector, NoMemory>
     match reply.last() {
         Some(vector) => vector.copy(alloc),
         None => Ok(Vector::new(alloc)),
+    }
+}
+
+/// What the source tells of times, if the reply is its last.
+fn times_brought(alloc: Global, reply: &Reply) -> Result<Times, NoMemory>
+    ensures { IfOk result (λ times. times ≡ times_brought reply.now) }
+{
+    if reply.last().is_some() {
+        reply.times().copy(alloc)
+    } else {
+        Ok(Times::new(alloc))
     }
 }

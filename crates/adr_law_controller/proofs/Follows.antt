@@ -2,10 +2,8 @@
 use Rattle.std.proofs.Common.{◌≡◌, ◌∙◌, refl, ap, subst, ℕ, ◌<◌, ◌≤◌, ◌^◌, List, ◌∷◌, Bool, true, false, Option, Some, Result, Ok, Err, arith}
 use Rattle.std.specs.Bool.{then_some}
 use Rattle.adr_values.specs.First.{first_of}
-use Rattle.adr_call.specs.Supported.{IsSupportedCall}
 use Rattle.adr_call.specs.declared.call.Call.{Call as Called}
 use Rattle.adr_call.specs.declared.call.Call.TheVariants as calls
-use Rattle.adr_call.specs.declared.write.Write.{Write as Asked}
 use Rattle.adr_call.specs.declared.refusal.ServeRefusal.{ServeRefusal}
 use Rattle.adr_call.specs.declared.refusal.ServeRefusal.TheVariants as serves
 use Rattle.adr_call.specs.declared.refusal.TakeRefusal.{TakeRefusal}
@@ -17,16 +15,17 @@ use Rattle.adr_model.specs.Collect.{collect, quarantine}
 use Rattle.adr_model.specs.Replica.{change_in}
 use Rattle.adr_model.specs.Serve.{Request, Reply, serve, is_quarantined}
 use Rattle.adr_model.specs.Take.{take}
-use Rattle.adr_model.specs.Write.{write, write_meant, usn_limit}
+use Rattle.adr_model.specs.Upgrade.{upgrade}
+use Rattle.adr_model.specs.Write.{Write, write, write_meant, usn_limit}
 use Rattle.adr_model.specs.Given.{IsWellGiven}
 use Rattle.adr_model.specs.Client.{IsWellAsked}
 use Rattle.adr_state.specs.Refusal.{IsOverfull}
 use Rattle.adr_model.specs.Spelled.{IsSpelledReply}
 use Rattle.adr_records.specs.Logged.{IsLogged, MayBeRecorded}
-use Rattle.adr_controller.specs.Able.{called_in, written_in, served_in, taken_in, change_of_served, change_of_taken, request_shows, reply_shows}
+use Rattle.adr_controller.specs.Able.{called_in, served_in, taken_in, change_of_served, change_of_taken, request_shows, reply_shows}
 use Rattle.adr_law_recorded.specs.Typed.{IsTypedCall, IsTypedWrite}
 use Rattle.adr_law_recorded.specs.Ranged.{IsRangedReply}
-use Rattle.adr_law_recorded.specs.Laws.{CollectedIsRecorded, LoggedFits, QuarantineIsRecorded, RecordedIsLogged, TakenIsRecorded, WrittenIsRecorded}
+use Rattle.adr_law_recorded.specs.Laws.{CollectedIsRecorded, LoggedFits, QuarantineIsRecorded, RecordedIsLogged, TakenIsRecorded, UpgradeIsRecorded, WrittenIsRecorded}
 
 -- what a controller asks of a change that it commits
 pub record Recorded (s : State) (c : Change) : Type 0 where
@@ -58,16 +57,15 @@ module _ (logged : RecordedIsLogged) (fits : LoggedFits) where
   recorded_so : (s : State) (c : Change) → MayBeRecorded s c → Recorded s c
   recorded_so s c may = let formed = logged s c may in record { follows = may; fits = λ over. fits (after s c) formed over; formed = formed }
 
-  pub written_follows : WrittenIsRecorded → (what : Asked) (now : ℕ) → IsWellGiven (write_meant what) → IsTypedWrite (write_meant what) → now < 2 ^ 64
-      → (s : State) (c : Change) → IsLogged s → written_in what now s ≡ Some c → Recorded s c
-  written_follows law what now given typed before s c is makes =
-      let meant = write_meant what in recorded_so s c (law s meant now c is given typed before (change_ok (write s meant now) c makes))
+  pub written_follows : WrittenIsRecorded → (what : Write) (now : ℕ) → IsWellGiven what → IsTypedWrite what → now < 2 ^ 64
+      → (s : State) (c : Change) → IsLogged s → change_in (write s what now) ≡ Some c → Recorded s c
+  written_follows law what now given typed before s c is makes = recorded_so s c (law s what now c is given typed before (change_ok (write s what now) c makes))
 
-  pub called_follows : WrittenIsRecorded → CollectedIsRecorded → (what : Called) (now : ℕ) → IsWellAsked what → IsTypedCall what → IsSupportedCall what → now < 2 ^ 64
+  pub called_follows : WrittenIsRecorded → CollectedIsRecorded → UpgradeIsRecorded → (what : Called) (now : ℕ) → IsWellAsked what → IsTypedCall what → now < 2 ^ 64
       → (s : State) (c : Change) → IsLogged s → called_in what now s ≡ Some c → Recorded s c
-  called_follows writes collects (calls.Write what) now given typed supported before s c is makes = written_follows writes what now given typed before s c is makes
-  called_follows writes collects (calls.Collect lifetime) now given typed supported before s c is makes = recorded_so s c (collects s now lifetime c is (change_ok (collect s now lifetime) c makes))
-  called_follows writes collects calls.Upgrade now given typed supported before s c is makes = absurd supported
+  called_follows writes collects upgrades (calls.Write what) now given typed before s c is makes = written_follows writes (write_meant what) now given typed before s c is makes
+  called_follows writes collects upgrades (calls.Collect lifetime) now given typed before s c is makes = recorded_so s c (collects s now lifetime c is (change_ok (collect s now lifetime) c makes))
+  called_follows writes collects upgrades calls.Upgrade now given typed before s c is makes = recorded_so s c (upgrades s c is (change_ok (upgrade s) c makes))
 
   quarantine_follows : QuarantineIsRecorded → (s : State) (c : Change) → IsLogged s → s.mode ≡ Normal → quarantine s ≡ c → Recorded s c
   quarantine_follows law s c is normal same = recorded_so s c (subst (λ x. MayBeRecorded s x) same (law s is normal))

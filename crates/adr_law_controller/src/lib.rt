@@ -15,7 +15,8 @@ use adr_disk::Disk;
 use adr_journal::Journal;
 use adr_law_recorded::{
     collections_are_recorded, logged_states_fit, quarantines_are_recorded,
-    recorded_changes_leave_logged_states, taken_replies_are_recorded, writes_are_recorded,
+    recorded_changes_leave_logged_states, taken_replies_are_recorded, upgrades_are_recorded,
+    writes_are_recorded,
 };
 use adr_records::Records;
 
@@ -41,6 +42,7 @@ pub fn given_calls_follow<D: Disk>()
     writes_are_recorded();
     taken_replies_are_recorded();
     collections_are_recorded();
+    upgrades_are_recorded();
     quarantines_are_recorded();
     recorded_changes_leave_logged_states();
     logged_states_fit();

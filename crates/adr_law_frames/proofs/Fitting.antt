@@ -1,16 +1,21 @@
 -- What a state of a log answers fits a frame.
-use Rattle.std.proofs.Common.{◌≡◌, ℕ, ◌+◌, ◌<◌, ◌≤◌, List, ◌∷◌, ◌++◌, length, Bool, true, false, ◌==◌, Ok, refl, sym, subst, arith}
+use Rattle.std.proofs.Common.{◌≡◌, ℕ, ◌+◌, ◌*◌, ◌<◌, ◌≤◌, List, [], ◌∷◌, ◌++◌, length, Bool, true, false, ◌==◌, Ok, refl, sym, subst, arith}
 use Rattle.std.specs.Bool.{then_some}
-use Rattle.std.specs.List.{flat_map}
+use Rattle.std.specs.Prelude.{if◌then◌else◌}
+use Rattle.std.specs.List.{AllByRecursion, flat_map}
+use Rattle.std.specs.Option.{option_map}
 use Rattle.std.proofs.lemmas.List.{length-append}
 use Rattle.adr_values.specs.declared.stamp.LinkStamp.{LinkStamp}
-use Rattle.adr_values.specs.Vector.{Cursors}
+use Rattle.adr_values.specs.Dated.{with_moments}
+use Rattle.adr_values.specs.Vector.{Cursors, at}
+use Rattle.adr_values.proofs.Dated.{as_many}
 use Rattle.adr_values.specs.declared.mark.Mark.{Mark}
 use Rattle.adr_wire.specs.Composites.{mark, vector}
 use Rattle.adr_wire.specs.Fields.{u16, u32, u64}
 use Rattle.adr_wire.specs.Headed.{head}
 use Rattle.adr_wire.specs.Optional.{if_there}
-use Rattle.adr_wire.specs.Ranges.{IsCursors}
+use Rattle.adr_wire.specs.Ranges.{IsCursor, IsCursors}
+use Rattle.adr_wire.specs.Timed.{dated, timed, vector2}
 use Rattle.adr_law_lengths.proofs.Lengths.{vector_long}
 use Rattle.adr_model.specs.Member.{Each}
 use Rattle.adr_model.specs.Change.{Item}
@@ -25,7 +30,7 @@ use Rattle.adr_records.specs.BodyLaws.{content_of_attr}
 use Rattle.adr_records.specs.Logged.{IsLogged}
 use Rattle.adr_frames.specs.Frames.{IsFrameLength}
 use Rattle.adr_packet.specs.Parts.{item, items, parties, reach}
-use Rattle.adr_packet.specs.Replies.{fields, magic, reply_bytes}
+use Rattle.adr_packet.specs.Replies.{fields, magic, reply_bytes, told_in}
 use Rattle.adr_packet.specs.Requests.{IsRequest}
 use Rattle.adr_law_frames.specs.Fits.{item_limit}
 use Rattle.adr_law_frames.proofs.Bytes.{item_is_no_longer}
@@ -67,13 +72,32 @@ mark_long : (m : Mark) → length (mark m) ≡ 24
 unfolding u64
 mark_long m = refl
 
-head_long : length (head magic 1) ≡ 6
+head_long : (version : ℕ) → length (head magic version) ≡ 6
 unfolding u16
-head_long = refl
+head_long version = refl
 
-last_short : (b : Bool) (v : Cursors) → IsCursors v → length (if_there vector (then_some b v)) ≤ 240005
-last_short true v q = let short = vector_short v q in omega arith
-last_short false v q = omega arith
+-- each cursor with its moment, whatever that is
+dated_long : (times v : Cursors) → AllByRecursion IsCursor v → length (flat_map dated (with_moments times v)) ≡ 32 * length v
+unfolding u64
+dated_long times [] all = refl
+dated_long times (c ∷ cs) all =
+    let rest = dated_long times cs all.1 in
+    let here = all.0.0 in
+    omega (arith, length-append c.0 (u64 c.1 ++ u64 (at times c.0)), length-append (dated (c, at times c.0)) (flat_map dated (with_moments times cs)))
+
+-- a vector of either version
+timed_short : (version : ℕ) (v times : Cursors) → IsCursors v → length (timed version (v, times)) ≤ 320004
+unfolding u32
+timed_short version v times q = by (version == 1)
+  where
+    by : (one : Bool) → length (if one then vector v else vector2 (v, times)) ≤ 320004
+    by true = let short = vector_short v q in omega arith
+    by false = omega (arith, dated_long times v q.1, as_many times v, q.0.few)
+
+last_short : (version : ℕ) (b : Bool) (v times : Cursors) → IsCursors v
+    → length (if_there (timed version) (option_map (λ w. (w, times)) (then_some b v))) ≤ 320005
+last_short version true v times q = let short = timed_short version v times q in omega arith
+last_short version false v times q = omega arith
 
 items_long : (is : List Item) → length (items is) ≡ 4 + length (flat_map item is)
 unfolding u32
@@ -89,18 +113,18 @@ module _ (s : State) (q : Request) (now : ℕ) (logged : IsLogged s) (asked : Is
   abbrev reply : Bool → Reply
   reply b = reply_of s q now (begins_at s q) first b
 
-  reply_short : (b : Bool) → length (fields (reply b)) ≤ 4679500
+  reply_short : (b : Bool) → length (fields (reply b)) ≤ 4759500
   unfolding u32
   reply_short b =
       let r = reply b in
-      let last = if_there vector r.last in
+      let last = if_there (timed r.version) (told_in r) in
       let behind = last ++ items r.items in
       let cut = cut_at most_bytes q.max byte_limit all (items_counted s logged (begins_at s q) q.vector) in
       omega (
         arith,
         cut,
         items_long r.items,
-        last_short b s.store.vector (logged.formed.store.vector, logged.spelled.vector),
+        last_short q.version b s.store.vector r.times (logged.formed.store.vector, logged.spelled.vector),
         vector_short q.vector asked.vector,
         mark_long r.from,
         mark_long r.to,
@@ -119,8 +143,8 @@ module _ (s : State) (q : Request) (now : ℕ) (logged : IsLogged s) (asked : Is
   reply_fits : (b : Bool) → IsFrameLength (length (2 ∷ reply_bytes (reply b)))
   reply_fits b =
       let short = reply_short b in
-      let joined = length-append (head magic 1) (fields (reply b)) in
-      let long = head_long in
+      let joined = length-append (head magic q.version) (fields (reply b)) in
+      let long = head_long q.version in
       (omega arith, omega arith)
 
 pub served_fit : (s : State) (q : Request) (r : Reply) (now : ℕ) → IsLogged s → IsRequest q → serve s q now ≡ Ok r → IsFrameLength (length (2 ∷ reply_bytes r))

@@ -19,10 +19,12 @@ use Rattle.adr_law_convergence.proofs.Converging.{runs_converge, runs_stay_clean
 use Rattle.adr_law_convergence.proofs.RefusalsNone.{never_too_old, no_damage}
 use Rattle.adr_law_convergence.proofs.CoveredEvents.{stays_covered}
 use Rattle.adr_law_convergence.proofs.Together.{runs_come_together}
+use Rattle.adr_law_convergence.proofs.Traced.{times_are_true}
 use Rattle.adr_law_headline.specs.Headline.{Headline}
 use Rattle.adr_law_headline.proofs.NormalControllers.{all_normal, leaves_all_normal}
 use Rattle.adr_law_headline.proofs.WholeCycles.{cycles_end}
 use Rattle.adr_law_headline.proofs.OpenAnswers.{none_is_quarantined}
+use Rattle.adr_law_headline.proofs.RevivedShown.{revivals_show}
 
 -- the first lines of those that may happen may happen
 pub first_may : (before after : List Event) (w : World) → MayAllHappen w (before ++ after) → MayAllHappen w before
@@ -67,6 +69,7 @@ module _ (es : List Event) (may : MayAllHappen empty_world es) where
     shown = λ before after is clean. (runs_converge before (front_may before after is) clean).0;
     equal = λ before after is clean. (runs_converge before (front_may before after is) clean).1;
     acknowledged = λ before mid after e is clean. acknowledged_stays_in_view before mid e (front_may (before ++ e ∷ mid) after is) clean;
+    times = λ before after is clean. times_are_true (behind before) (sound_behind before after is clean);
     together = λ before after is clean. (runs_come_together before (front_may before after is) clean).0;
     rings = λ before after is clean. (runs_come_together before (front_may before after is) clean).1;
     cycles = λ before after is clean. cycles_end (behind before) (sound_behind before after is clean);
@@ -77,6 +80,8 @@ module _ (es : List Event) (may : MayAllHappen empty_world es) where
         let t = no_damage (behind before) e sound (line_may before after e is) in
         (none_is_quarantined (behind before) e sound, t.0, t.1.0, t.1.1);
     young = λ before after e is clean covered. never_too_old (behind before) e (sound_behind before (e ∷ after) is clean) (line_may before after e is) covered;
+    revived = λ before after e is. let orderly = (runs_are_sound before (front_may before (e ∷ after) is)).orderly in
+        revivals_show (behind before) e (λ r m. (orderly.replicas r m).safe.formed) (λ i m. (orderly.images i m).formed);
     begins_covered = nothing_collected;
     stays_covered = λ before after e is clean. stays_covered (behind before) e (sound_behind before (e ∷ after) is clean) (line_may before after e is);
   }

@@ -41,8 +41,7 @@ always_exportable es may formed printable =
     both_always es (runs_always_sound es may) (both_always es formed printable (λ w f p. (f, p))) world_exportable
 
 pub runs_are_exportable : RunsAreExportable
-runs_are_exportable es may does typed so =
-    always_exportable es may (runs_are_formed es may does typed) (runs_are_printable es may does typed so)
+runs_are_exportable es may typed so = always_exportable es may (runs_are_formed es may typed) (runs_are_printable es may typed so)
 
 pub texts_are_exportable : TextsAreExportable
 texts_are_exportable text es is = let t = every_text text es is in

@@ -16,20 +16,20 @@ use Rattle.adr_schedule.specs.Grammar.{AreGiven, HasCallLine, IsAllowed}
 use Rattle.adr_values.specs.First.{first_of}
 use Rattle.adr_schedule.specs.Seen.{Seen, nothing_seen, is_bound, if_bound, if_inv_given, if_given, if_full, unless_bound, cause_after, with_controller, seen_after, IsFollowing}
 use Rattle.adr_model.specs.Member.{Member, Each}
-use Rattle.adr_model.specs.Write.{write_meant}
+use Rattle.adr_model.specs.Write.{Revive, write_meant}
 use Rattle.adr_model.specs.Given.{IsWellGiven}
 use Rattle.adr_model.specs.Client.{IsWellAsked, call_meant}
 use Rattle.adr_model.specs.Store.{empty_state}
 use Rattle.adr_model.specs.Collect.{backup, adopt}
 use Rattle.adr_disk.specs.declared.memory.Mishap.TheVariants.{Fails, Stops}
-use Rattle.adr_model.specs.Replica.{Replica, Book, on_new_disk, begun}
+use Rattle.adr_model.specs.Replica.{ToWrite, Replica, Book, on_new_disk, begun}
 use Rattle.adr_model.specs.World.{Name, World, empty_world, nothing, bound, bound_at, replica_at, of_made, of_controller, asks, serves_request, backed_up, reported}
 use Rattle.adr_model.specs.Cycles.{reply_limit}
 use Rattle.adr_model.specs.Step.{gives, step}
 use Rattle.adr_model.specs.Convergence.{IsNewName, IsNewDsa, IsNewInv, IsUnbound, MayHappen, MayAllHappen}
 use Rattle.adr_model.proofs.Members.{member_of_either}
 use Rattle.adr_law_convergence.proofs.Found.{same_name_tests}
-use Rattle.adr_law_headline.proofs.Naming.{names_of, Stays, adopted_case, does_stay, asks_stay, serves_stay, delivers_stay, backups_stay, snapshots_stay, restores_stay, rollbacks_stay, reports_stay, plans_stay, stops_stay, starts_stay, pull_stays, pulls_stay, rings_stay}
+use Rattle.adr_law_headline.proofs.Naming.{names_of, Stays, adopted_case, does_stay, revives_stay, asks_stay, serves_stay, delivers_stay, backups_stay, snapshots_stay, restores_stay, rollbacks_stay, reports_stay, plans_stay, stops_stay, starts_stay, pull_stays, pulls_stay, rings_stay}
 
 -- what is bound to names is among what lines bound
 abbrev AreAmong : {A : Type 0} → List (Name × A) → List Name → Type 0
@@ -252,7 +252,8 @@ event_may seen w (events.Pull name source max) agrees cause allowed = (tt, agree
 event_may seen w (events.Cycle name source max) agrees cause allowed = (tt, agrees_on seen w (step w (events.Cycle name source max)).0 agrees (pulls_stay reply_limit w name source max))
 event_may seen w (events.Ring name others rounds max) agrees cause allowed =
     (tt, agrees_on seen w (step w (events.Ring name others rounds max)).0 agrees (rings_stay w name others rounds max))
-event_may seen w (events.Revive name guid image parent text) agrees cause allowed = absurd allowed.0
+event_may seen w (events.Revive name guid image parent text) agrees cause allowed =
+    (tt, agrees_on seen w (step w (events.Revive name guid image parent text)).0 agrees (revives_stay w name (bound_at w.images image) (λ i. ToWrite (Revive i guid parent text) w.time)))
 event_may seen w (events.Backup name bind) agrees cause allowed =
     let t = of_controller w name (nothing w) (λ r. backed_up w (backup r.safe)) in let a = agrees_on seen w t.0 agrees (backups_stay w name) in (
       unbound w.images seen.images bind agrees.images (new_image seen name bind cause),

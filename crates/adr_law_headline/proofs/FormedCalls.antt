@@ -7,6 +7,7 @@ use Rattle.adr_call.specs.declared.refusal.ServeRefusal.TheVariants as serves
 use Rattle.adr_call.specs.declared.refusal.TakeRefusal.{TakeRefusal}
 use Rattle.adr_call.specs.declared.refusal.TakeRefusal.TheVariants as takes
 use Rattle.adr_call.specs.declared.refusal.AdoptRefusal.{AdoptRefusal}
+use Rattle.adr_wire.specs.Headed.{is_version}
 use Rattle.adr_wire.specs.Ranges.{IsId, IsU32, IsU64}
 use Rattle.adr_model.specs.Member.{Member, Each}
 use Rattle.adr_model.specs.Update.{Identifier, Update}
@@ -18,10 +19,11 @@ use Rattle.adr_model.specs.Write.{Write, write}
 use Rattle.adr_model.specs.Given.{IsWellGiven}
 use Rattle.adr_model.specs.Take.{take}
 use Rattle.adr_model.specs.Collect.{collect, backup, adopt, quarantine}
+use Rattle.adr_model.specs.Upgrade.{upgrade}
 use Rattle.adr_model.specs.Lengths.{new_log, area_fits, change_fits}
 use Rattle.adr_model.specs.Refused.{serve_refused, take_refused, quarantined}
 use Rattle.adr_disk.specs.declared.memory.Plan.{Plan}
-use Rattle.adr_model.specs.Replica.{Call, Pending, ToWrite, ToTake, ToCollect, ToQuarantine, Standing, Up, Down, Failed, Device, Replica, on_disk, on_new_disk, Book, begun, Settle, moved, moves_of_commit, moves_of_start, standing_after, commit_goes, start_goes, device_after_commit, device_after_start, device_settled}
+use Rattle.adr_model.specs.Replica.{Call, Pending, ToWrite, ToTake, ToCollect, ToUpgrade, ToQuarantine, Standing, Up, Down, Failed, Device, Replica, on_disk, on_new_disk, Book, begun, Settle, moved, moves_of_commit, moves_of_start, standing_after, commit_goes, start_goes, device_after_commit, device_after_start, device_settled}
 use Rattle.adr_model.specs.World.{Name, World, Snapshot, Gone, Sent, stays, nothing, bound_at, replica_at, with_replica, of_made, of_controller, committed, commit, quarantines, after_call, does, noted, asks, after_serve, served, serves_request, after_take, delivered, delivers, backed_up, adopts, of_image, put_back, with_plan, stops, starts}
 use Rattle.adr_model.proofs.Members.{member_of_either}
 use Rattle.adr_law_convergence.proofs.Found.{bound_member, in_place}
@@ -33,7 +35,7 @@ use Rattle.adr_law_convergence.proofs.Moves.{settling, starting, committing}
 use Rattle.adr_law_recorded.specs.Typed.{IsTypedWrite}
 use Rattle.adr_law_recorded.specs.Ranged.{IsRangedRequest}
 use Rattle.adr_law_recorded.proofs.Asked.{asked_in_range}
-use Rattle.adr_law_headline.proofs.StayingFormed.{IsInForm, IsImageInForm, IsReplyInForm, written_by, written_in_form, taken_in_form, collected_in_form, quarantined_in_form, served_in_form, new_in_form, image_in_form, adopted_in_form}
+use Rattle.adr_law_headline.proofs.StayingFormed.{IsInForm, IsImageInForm, IsReplyInForm, written_by, written_in_form, taken_in_form, collected_in_form, upgraded_in_form, quarantined_in_form, served_in_form, new_in_form, image_in_form, adopted_in_form}
 
 abbrev pub BothInForm : (Update → Type 0) → Replica → Type 0
 BothInForm P r = IsInForm P r.safe × IsInForm P r.read
@@ -138,10 +140,14 @@ module _ (P : Update → Type 0) (w : World) (is : IsWorldInForm P w) where
   collects_in_form name lifetime = call_in_form name (ToCollect w.time lifetime) (λ r there c e.
       collected_in_form P r.safe w.time lifetime c (is.replicas r there).0 (in_change (collect r.safe w.time lifetime) c (done_changes r.safe (ToCollect w.time lifetime) c e)))
 
-  pub asks_in_form : (name partner : Name) (max : ℕ) → IsU32 max → MakesInForm P IsRangedRequest (asks w name partner max 1)
-  asks_in_form name partner max few =
+  pub upgrades_in_form : (name : Name) → InForm (does w name ToUpgrade)
+  upgrades_in_form name = call_in_form name ToUpgrade (λ r there c e.
+      upgraded_in_form P r.safe c (is.replicas r there).0 (in_change (upgrade r.safe) c (done_changes r.safe ToUpgrade c e)))
+
+  pub asks_in_form : (name partner : Name) (max version : ℕ) → IsU32 max → is_version version ≡ true → MakesInForm P IsRangedRequest (asks w name partner max version)
+  asks_in_form name partner max version few known =
       made_case (MakesInForm P IsRangedRequest) w name (nothing w) none _ (λ r called. made_case (MakesInForm P IsRangedRequest) w partner (nothing w) none _ (λ p at. up_case (MakesInForm P IsRangedRequest) w name (nothing w) none r.standing _ (λ up.
-      (is, only_made IsRangedRequest (ask r.safe p.safe.dsa max 1) (asked_in_range r.safe p.safe.dsa max (is.replicas r called.there).0.logged few)))))
+      (is, only_made IsRangedRequest (ask r.safe p.safe.dsa max version) (asked_in_range r.safe p.safe.dsa max version (is.replicas r called.there).0.logged few known)))))
     where
       none : (x : Outcome) → MakesInForm P IsRangedRequest (nothing w x)
       none x = nothing_made IsRangedRequest x

@@ -1,23 +1,23 @@
 -- Every line that may happen leaves every state in form, with whatever writes keep of rows, and so does all that stands on its way.
 use Rattle.std.proofs.Common.{◌≡◌, inl, inr, ℕ, zero, suc, List, [], ◌∷◌, Bool, true, false, Option, Some, None, refl, sym, subst, arith}
 use Rattle.std.specs.Prelude.{IfSome}
-use Rattle.adr_call.specs.Supported.{IsSupported}
+use Rattle.std.specs.Str.{is_utf8}
 use Rattle.adr_call.specs.declared.answer.Answer.{Answer}
 use Rattle.adr_call.specs.declared.outcome.Outcome.TheVariants as outcomes
 use Rattle.adr_call.specs.declared.call.Call.TheVariants as calls
 use Rattle.adr_call.specs.declared.event.Event.{Event}
 use Rattle.adr_call.specs.declared.event.Event.TheVariants as events
-use Rattle.adr_wire.specs.Ranges.{IsU32}
+use Rattle.adr_wire.specs.Ranges.{IsId, IsU32}
 use Rattle.adr_model.specs.Member.{Each}
-use Rattle.adr_model.specs.Update.{Update}
+use Rattle.adr_model.specs.Update.{Identifier, Update}
 use Rattle.adr_model.specs.Store.{Store, State, updates_of}
 use Rattle.adr_model.specs.Serve.{Request, Reply}
-use Rattle.adr_model.specs.Write.{Write, write_meant}
+use Rattle.adr_model.specs.Write.{Write, Revive, write_meant}
 use Rattle.adr_model.specs.Given.{IsWellGiven}
 use Rattle.adr_model.specs.Collect.{backup}
 use Rattle.adr_disk.specs.declared.memory.Mishap.TheVariants.{Fails, Stops}
 use Rattle.adr_model.specs.Replica.{ToWrite}
-use Rattle.adr_model.specs.World.{World, Name, Snapshot, Sent, empty_world, nothing, bound, bound_at, replica_at, of_made, of_controller, does, asks, serves_request, backed_up, reported}
+use Rattle.adr_model.specs.World.{World, Name, Snapshot, Sent, empty_world, nothing, bound, bound_at, replica_at, of_made, of_controller, of_image, does, asks, serves_request, backed_up, reported}
 use Rattle.adr_model.specs.Cycles.{Pulled, pull_served, pull_asked, pull, and_then, pulls, cycle, reply_limit, pull_version}
 use Rattle.adr_model.specs.Rings.{Connection, ring, times, rings}
 use Rattle.adr_model.specs.Step.{ClientWrite, write_of, gives, step, after_lines}
@@ -27,21 +27,25 @@ use Rattle.adr_law_convergence.proofs.Found.{bound_member, each_bound}
 use Rattle.adr_law_recorded.specs.Typed.{IsTypedWrite, IsTyped}
 use Rattle.adr_law_recorded.specs.Ranged.{IsRangedRequest}
 use Rattle.adr_law_headline.specs.Throughout.{HoldsAlways}
-use Rattle.adr_law_headline.specs.Formed.{HasTypedNumbers, AreAllTyped, AreSupported, RunsAreFormed}
+use Rattle.adr_law_headline.specs.Formed.{HasTypedNumbers, AreAllTyped, RunsAreFormed}
 use Rattle.adr_law_headline.specs.Printable.{WritesSo}
 use Rattle.adr_law_headline.proofs.Throughout.{follows_always, always_so}
 use Rattle.adr_law_headline.proofs.StayingFormed.{IsInForm, IsImageInForm, IsReplyInForm, written_by}
-use Rattle.adr_law_headline.proofs.FormedCalls.{IsWorldInForm, MakesInForm, writes_in_form, asks_in_form, serves_in_form, delivers_in_form, collects_in_form, backups_in_form, copies_in_form, plans_in_form, stops_in_form, starts_in_form, reports_in_form, restores_in_form, installs_in_form, puts_back_in_form, comes_in_form}
+use Rattle.adr_law_headline.proofs.FormedCalls.{IsWorldInForm, MakesInForm, writes_in_form, asks_in_form, serves_in_form, delivers_in_form, collects_in_form, upgrades_in_form, backups_in_form, copies_in_form, plans_in_form, stops_in_form, starts_in_form, reports_in_form, restores_in_form, installs_in_form, puts_back_in_form, comes_in_form}
 
 -- what is so written keeps what holds of all rows
 abbrev pub AreKeptByWrites : (Update → Type 0) → (Write → Type 0) → Type 0
 AreKeptByWrites P Q = (s : State) (what : Write) (now : ℕ) → Each P (updates_of s.store.rows) → Q what → Each P (written_by s what now)
 
+-- what a line writes is so: a revival what it writes of any image that is in form, as its own isn't the line's
+abbrev pub SaysSo : (Update → Type 0) → (Write → Type 0) → Event → Type 0
+SaysSo P Q (events.Revive name guid image parent text) = (i : Store) → IsImageInForm P i → Q (Revive i guid parent text)
+SaysSo P Q e = WritesSo Q e
+
 -- what is asked of a line
-record IsLine (Q : Write → Type 0) (e : Event) : Type 0 where
-  does : IsSupported e
+record IsLine (P : Update → Type 0) (Q : Write → Type 0) (e : Event) : Type 0 where
   typed : IsTyped e × HasTypedNumbers e
-  writes : WritesSo Q e
+  writes : SaysSo P Q e
 
 module _ (P : Update → Type 0) where
   -- ---- pulls, of a number of items in range
@@ -57,7 +61,7 @@ module _ (P : Update → Type 0) where
         let t = serves_in_form P w is source (Some q) all in served (serves_request w source (Some q)).0 (serves_request w source (Some q)).2 t.0 t.1
 
     pull_in_form : (w : World) → IsWorldInForm P w → IsWorldInForm P (pull w dest source max).0
-    pull_in_form w is = let t = asks_in_form P w is dest source max few in asked (asks w dest source max pull_version).0 (asks w dest source max pull_version).2 t.0 t.1
+    pull_in_form w is = let t = asks_in_form P w is dest source max pull_version few refl in asked (asks w dest source max pull_version).0 (asks w dest source max pull_version).2 t.0 t.1
 
     then_in_form : (p : Pulled) (go : World → World × List Answer) → IsWorldInForm P p.0 → ((v : World) → IsWorldInForm P v → IsWorldInForm P (go v).0) → IsWorldInForm P (and_then p go).0
     then_in_form p go is goes = by p.2
@@ -110,48 +114,56 @@ module _ (P : Update → Type 0) where
     written : (w : World) → IsWorldInForm P w → (name : Name) (what : Write) → IsWellGiven what → IsTypedWrite what → Q what → IsWorldInForm P (does w name (ToWrite what w.time)).0
     written w is name what given typed so = writes_in_form P w is name what given typed (λ r m. keeps r.safe what w.time (is.replicas r m).0.rows so)
 
-    event_in_form : (w : World) (is : IsWorldInForm P w) (e : Event) → MayHappen w e → IsSupported e → IsTyped e × HasTypedNumbers e → WritesSo Q e → IsWorldInForm P (step w e).0
-    event_in_form w is (events.Controller name dsa inv) may does typed so = comes_in_form P (gives w (dsa ∷ []) (inv ∷ [])) (given_more w (dsa ∷ []) (inv ∷ []) is) name dsa inv typed.0.0 typed.0.1
-    event_in_form w is (events.Time now) may does typed so = record { time = typed.1; replicas = is.replicas; requests = is.requests; replies = is.replies; images = is.images; snapshots = is.snapshots }
-    event_in_form w is (events.Calls name (calls.Write what)) may does typed so = written w is name (write_meant what) may typed.0 so
-    event_in_form w is (events.Ask name partner max version bind) may does typed so =
-        subst (λ (v : ℕ). IsWorldInForm P (step w (events.Ask name partner max v bind)).0) (sym does) (bound_request (asks w name partner max 1) bind (asks_in_form P w is name partner max typed.1))
-    event_in_form w is (events.Serve name request bind) may does typed so =
+    revived : (w : World) → IsWorldInForm P w → (name : Name) (guid parent : Identifier) (text : List ℕ) → IsId guid × IsId parent × (is_utf8 text ≡ true)
+        → ((i : Store) → IsImageInForm P i → Q (Revive i guid parent text)) → (o : Option Store) → ((i : Store) → o ≡ Some i → IsImageInForm P i)
+        → IsWorldInForm P (of_image w o (λ i. does w name (ToWrite (Revive i guid parent text) w.time))).0
+    revived w is name guid parent text typed so None all = is
+    revived w is name guid parent text typed so (Some i) all =
+        let image = all i refl in written w is name (Revive i guid parent text) image.formed (image.spelled, typed.0, typed.1, typed.2) (so i image)
+
+    event_in_form : (w : World) (is : IsWorldInForm P w) (e : Event) → MayHappen w e → IsTyped e × HasTypedNumbers e → SaysSo P Q e → IsWorldInForm P (step w e).0
+    event_in_form w is (events.Controller name dsa inv) may typed so = comes_in_form P (gives w (dsa ∷ []) (inv ∷ [])) (given_more w (dsa ∷ []) (inv ∷ []) is) name dsa inv typed.0.0 typed.0.1
+    event_in_form w is (events.Time now) may typed so = record { time = typed.1; replicas = is.replicas; requests = is.requests; replies = is.replies; images = is.images; snapshots = is.snapshots }
+    event_in_form w is (events.Calls name (calls.Write what)) may typed so = written w is name (write_meant what) may typed.0 so
+    event_in_form w is (events.Ask name partner max version bind) may typed so =
+        bound_request (asks w name partner max version) bind (asks_in_form P w is name partner max version typed.1 typed.0)
+    event_in_form w is (events.Serve name request bind) may typed so =
         bound_reply (serves_request w name (bound_at w.requests request)) bind (serves_in_form P w is name (bound_at w.requests request) (λ q e. bound_member IsRangedRequest w.requests request q is.requests e))
-    event_in_form w is (events.Deliver name reply) may does typed so = delivers_in_form P w is name (bound_at w.replies reply) (λ r e. bound_member (IsReplyInForm P) w.replies reply r is.replies e)
-    event_in_form w is (events.Pull name source max) may does typed so = pull_in_form name source max typed.1 w is
-    event_in_form w is (events.Cycle name source max) may does typed so = pulls_in_form name source max typed.1 reply_limit w is
-    event_in_form w is (events.Ring name others rounds max) may does typed so =
+    event_in_form w is (events.Deliver name reply) may typed so = delivers_in_form P w is name (bound_at w.replies reply) (λ r e. bound_member (IsReplyInForm P) w.replies reply r is.replies e)
+    event_in_form w is (events.Pull name source max) may typed so = pull_in_form name source max typed.1 w is
+    event_in_form w is (events.Cycle name source max) may typed so = pulls_in_form name source max typed.1 reply_limit w is
+    event_in_form w is (events.Ring name others rounds max) may typed so =
         amid_in_form (times rounds (ring name others)) max typed.1 w is (rings w name others rounds max).0 (behind_is_amid name others rounds max w)
-    event_in_form w is (events.Calls name (calls.Collect lifetime)) may does typed so = collects_in_form P w is name lifetime
-    event_in_form w is (events.Calls name calls.Upgrade) may does typed so = absurd does
-    event_in_form w is (events.Revive name guid image parent text) may does typed so = absurd does
-    event_in_form w is (events.Backup name bind) may does typed so = bound_image (of_controller w name (nothing w) (λ r. backed_up w (backup r.safe))) bind (backups_in_form P w is name)
-    event_in_form w is (events.Restore name image inv) may does typed so = restores_in_form P (gives w [] (inv ∷ [])) (given_more w [] (inv ∷ []) is) name image inv typed.0
-    event_in_form w is (events.Install name dsa image inv) may does typed so = installs_in_form P (gives w (dsa ∷ []) (inv ∷ [])) (given_more w (dsa ∷ []) (inv ∷ []) is) name image dsa inv typed.0.0 typed.0.1
-    event_in_form w is (events.Snapshot name bind) may does typed so =
+    event_in_form w is (events.Calls name (calls.Collect lifetime)) may typed so = collects_in_form P w is name lifetime
+    event_in_form w is (events.Calls name calls.Upgrade) may typed so = upgrades_in_form P w is name
+    event_in_form w is (events.Revive name guid image parent text) may typed so =
+        revived w is name guid parent text typed.0 so (bound_at w.images image) (λ i e. bound_member (IsImageInForm P) w.images image i is.images e)
+    event_in_form w is (events.Backup name bind) may typed so = bound_image (of_controller w name (nothing w) (λ r. backed_up w (backup r.safe))) bind (backups_in_form P w is name)
+    event_in_form w is (events.Restore name image inv) may typed so = restores_in_form P (gives w [] (inv ∷ [])) (given_more w [] (inv ∷ []) is) name image inv typed.0
+    event_in_form w is (events.Install name dsa image inv) may typed so = installs_in_form P (gives w (dsa ∷ []) (inv ∷ [])) (given_more w (dsa ∷ []) (inv ∷ []) is) name image dsa inv typed.0.0 typed.0.1
+    event_in_form w is (events.Snapshot name bind) may typed so =
         bound_snapshot (of_made (nothing w) (replica_at w name) (λ r. (w, outcomes.Ok, Some (record { state = r.read; log = r.device.read_log })))) bind (copies_in_form P w is name)
-    event_in_form w is (events.Rollback name snapshot) may does typed so = puts_back_in_form P w is name snapshot
-    event_in_form w is (events.StopAfter name calls how) may does typed so = plans_in_form P w is name (record { calls = calls; mishap = Stops how })
-    event_in_form w is (events.Fail name calls) may does typed so = plans_in_form P w is name (record { calls = calls; mishap = Fails })
-    event_in_form w is (events.Stop name) may does typed so = stops_in_form P w is name
-    event_in_form w is (events.Start name) may does typed so = starts_in_form P w is name
-    event_in_form w is (events.Report name what) may does typed so = reports_in_form P w is name (λ r. reported w r.safe what)
+    event_in_form w is (events.Rollback name snapshot) may typed so = puts_back_in_form P w is name snapshot
+    event_in_form w is (events.StopAfter name calls how) may typed so = plans_in_form P w is name (record { calls = calls; mishap = Stops how })
+    event_in_form w is (events.Fail name calls) may typed so = plans_in_form P w is name (record { calls = calls; mishap = Fails })
+    event_in_form w is (events.Stop name) may typed so = stops_in_form P w is name
+    event_in_form w is (events.Start name) may typed so = starts_in_form P w is name
+    event_in_form w is (events.Report name what) may typed so = reports_in_form P w is name (λ r. reported w r.safe what)
 
     -- ---- runs
 
-    way_in_form : (w : World) (e : Event) → IsWorldInForm P w → MayHappen w e → IsLine Q e → (v : World) → IsOnTheWay w e v → IsWorldInForm P v
+    way_in_form : (w : World) (e : Event) → IsWorldInForm P w → MayHappen w e → IsLine P Q e → (v : World) → IsOnTheWay w e v → IsWorldInForm P v
     way_in_form w (events.Cycle name source max) is may so v way = subst (IsWorldInForm P) (sym way.1) (pulls_in_form name source max so.typed.1 way.0 w is)
     way_in_form w (events.Ring name others rounds max) is may so v way = amid_in_form (times rounds (ring name others)) max so.typed.1 w is v way
-    way_in_form w e is may so v way = subst (IsWorldInForm P) (sym way) (event_in_form w is e may so.does so.typed so.writes)
+    way_in_form w e is may so v way = subst (IsWorldInForm P) (sym way) (event_in_form w is e may so.typed so.writes)
 
-    lines_in_form : (es : List Event) (w : World) → IsWorldInForm P w → MayAllHappen w es → Each (IsLine Q) es → IsWorldInForm P (after_lines w es)
+    lines_in_form : (es : List Event) (w : World) → IsWorldInForm P w → MayAllHappen w es → Each (IsLine P Q) es → IsWorldInForm P (after_lines w es)
     lines_in_form [] w is may so = is
-    lines_in_form (e ∷ es) w is may so = let t = so e (inl refl) in lines_in_form es (step w e).0 (event_in_form w is e may.0 t.does t.typed t.writes) may.1 (λ x m. so x (inr m))
+    lines_in_form (e ∷ es) w is may so = let t = so e (inl refl) in lines_in_form es (step w e).0 (event_in_form w is e may.0 t.typed t.writes) may.1 (λ x m. so x (inr m))
 
-    pub runs_in_form : (es : List Event) → MayAllHappen empty_world es → AreSupported es → AreAllTyped es → Each (WritesSo Q) es → HoldsAlways es (IsWorldInForm P)
-    runs_in_form es may does typed so =
-        always_so es may (IsWorldInForm P) (IsLine Q) (λ e m. record { does = does e m; typed = typed e m; writes = so e m }) (λ fs all each. lines_in_form fs empty_world empty all each) way_in_form
+    pub runs_in_form : (es : List Event) → MayAllHappen empty_world es → AreAllTyped es → Each (SaysSo P Q) es → HoldsAlways es (IsWorldInForm P)
+    runs_in_form es may typed so =
+        always_so es may (IsWorldInForm P) (IsLine P Q) (λ e m. record { typed = typed e m; writes = so e m }) (λ fs all each. lines_in_form fs empty_world empty all each) way_in_form
       where
         empty : IsWorldInForm P empty_world
         empty = record { time = omega arith; replicas = λ r m. absurd m; requests = λ q m. absurd m; replies = λ r m. absurd m; images = λ i m. absurd m; snapshots = λ s m. absurd m }
@@ -161,8 +173,12 @@ any_write : (o : Option ClientWrite) → IfSome o (λ (x : ClientWrite). Unit {0
 any_write None = tt
 any_write (Some x) = tt
 
+any_said : (P : Update → Type 0) (e : Event) → SaysSo P (λ what. Unit {0}) e
+any_said P (events.Revive name guid image parent text) = λ i is. tt
+any_said P e = any_write (write_of empty_world e)
+
 pub runs_are_formed : RunsAreFormed
-runs_are_formed es may does typed = follows_always es form (λ w is r m. let both = is.replicas r m in (both.0.logged, both.1.logged))
+runs_are_formed es may typed = follows_always es form (λ w is r m. let both = is.replicas r m in (both.0.logged, both.1.logged))
   where
     form : HoldsAlways es (IsWorldInForm (λ u. Unit {0}))
-    form = runs_in_form (λ u. Unit {0}) (λ what. Unit {0}) (λ s what now each so u n. tt) es may does typed (λ e n. any_write (write_of empty_world e))
+    form = runs_in_form (λ u. Unit {0}) (λ what. Unit {0}) (λ s what now each so u n. tt) es may typed (λ e n. any_said (λ u. Unit {0}) e)

@@ -5,9 +5,11 @@ pub mod NormalControllers
 pub mod WholeCycles
 pub mod OpenRefusals
 pub mod OpenAnswers
+pub mod RevivedShown
 pub mod Claimed
 pub mod Throughout
 pub mod WholeRows
+pub mod RevivedWhole
 pub mod ShownPrintable
 pub mod StayingFormed
 pub mod FormedCalls

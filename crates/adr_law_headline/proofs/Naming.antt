@@ -101,6 +101,10 @@ module _ (w : World) where
   pub does_stay : (name : Name) (call : Call) → Kept (does w name call)
   does_stay name call = reached_case Kept w name (stays w) (λ o. same w) (λ r. after_call w r call (done r.safe call)) (λ r reached up. called r call (done r.safe call))
 
+  pub revives_stay : (name : Name) (image : Option Store) (what : Store → Call) → Kept (of_image w image (λ i. does w name (what i)))
+  revives_stay name None what = same w
+  revives_stay name (Some i) what = does_stay name (what i)
+
   pub asks_stay : (name partner : Name) (max version : ℕ) → KeptBy (asks w name partner max version)
   asks_stay name partner max version =
       made_case KeptBy w name (nothing w) (λ o. same w) _ (λ r is. made_case KeptBy w partner (nothing w) (λ o. same w) _ (λ p at. up_case KeptBy w name (nothing w) (λ o. same w) r.standing _ (λ up. same w)))

@@ -17,6 +17,7 @@ use Rattle.adr_model.specs.Write.{Write, write_refusal, items_written, own_chang
 use Rattle.adr_model.specs.Given.{IsWellGiven}
 use Rattle.adr_model.specs.Take.{take}
 use Rattle.adr_model.specs.Collect.{deaths_to_collect, collection, collect_refusal, collect, adopt, quarantine}
+use Rattle.adr_model.specs.Upgrade.{upgraded, upgrade_refusal, upgrade}
 use Rattle.adr_model.proofs.Members.{of_filter, member_left, mapped_member}
 use Rattle.adr_law_knowledge.proofs.Refusing.{answered}
 use Rattle.adr_law_calls.proofs.Rows.{held_as, updated}
@@ -32,7 +33,7 @@ use Rattle.adr_law_recorded.proofs.Beginning.{new_may_begin, adopted_is_logged}
 use Rattle.adr_law_recorded.proofs.Served.{served_in_range}
 use Rattle.adr_law_recorded.proofs.Written.{write_is_recorded}
 use Rattle.adr_law_recorded.proofs.Taken.{taken_recorded}
-use Rattle.adr_law_recorded.proofs.Collected.{quarantine_is_recorded, collection_is_recorded}
+use Rattle.adr_law_recorded.proofs.Collected.{quarantine_is_recorded, upgrade_is_recorded, collection_is_recorded}
 
 -- what is kept of each state, where something holds of all rows
 pub record IsInForm (P : Update → Type 0) (s : State) : Type 0 where
@@ -75,6 +76,10 @@ module _ (P : Update → Type 0) where
     where
       made : Change
       made = collection s (deaths_to_collect s now lifetime)
+
+  pub upgraded_in_form : (s : State) (c : Change) → IsInForm P s → upgrade s ≡ Ok c → IsInForm P (after s c)
+  upgraded_in_form s c is e = changed_in_form s c is (upgrade_is_recorded s c is.logged e)
+      (subst (λ (x : Change). Each P (updates_written x)) (answered (upgrade_refusal s) (upgraded s) c e).1 (λ u m. absurd m))
 
   -- a quarantine leaves the store of a state as it would that of one that is up
   pub quarantined_in_form : (s : State) → IsInForm P s → IsInForm P (after s (quarantine s))

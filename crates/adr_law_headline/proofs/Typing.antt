@@ -1,11 +1,10 @@
--- What lines may say is typed, and whole, and the program does it.
-use Rattle.std.proofs.Common.{◌≡◌, ℕ, List, [], ◌∷◌, length, inl, inr, sym, subst, true, arith}
+-- What lines may say is typed, and whole.
+use Rattle.std.proofs.Common.{◌≡◌, ℕ, List, [], ◌∷◌, length, inl, inr, refl, sym, subst, true, arith}
 use Rattle.std.specs.Prelude.{nat_le}
 use Rattle.std.specs.Str.{is_utf8}
 use Rattle.std.proofs.lemmas.Bool.{and_parts}
 use Rattle.adr_call.specs.declared.write.Write.{Write}
 use Rattle.adr_call.specs.declared.write.Write.TheVariants.{Add, Modify, Rename, Delete, Link, Unlink}
-use Rattle.adr_call.specs.Supported.{IsSupported}
 use Rattle.adr_call.specs.declared.call.Call.TheVariants as calls
 use Rattle.adr_call.specs.declared.event.Event.{Event}
 use Rattle.adr_call.specs.declared.event.Event.TheVariants as events
@@ -14,16 +13,16 @@ use Rattle.adr_values.specs.declared.content.Value.{Value as Item}
 use Rattle.adr_values.specs.declared.content.Value.TheVariants.{Text, Number, Flag, Octets, Ref}
 use Rattle.adr_token.specs.Texts.{is_text}
 use Rattle.adr_token.specs.Spelled.{SpellsValue, SpellsValues}
-use Rattle.adr_schedule.specs.Grammar.{given_in, tokens_written, tokens_behind, sets, HaveSpellings, IsLimit, IsAllowed}
+use Rattle.adr_schedule.specs.Grammar.{given_in, tokens_written, tokens_behind, sets, HaveSpellings, IsLimit, IsVersion, IsAllowed}
 use Rattle.adr_schedule.specs.Seen.{Seen, nothing_seen, seen_after, IsFollowing}
-use Rattle.adr_schedule.proofs.AllowedLaws.{lined_supported}
+use Rattle.adr_wire.specs.Headed.{is_version}
 use Rattle.adr_wire.specs.Ranges.{IsU32}
 use Rattle.adr_model.specs.Member.{Each}
 use Rattle.adr_model.specs.Write.{write_meant}
 use Rattle.adr_law_recorded.specs.Typed.{IsTypedValue, AreTypedValues, IsTypedWrite, IsTyped, AreTyped}
 use Rattle.adr_answers.specs.Laws.{IsWholeReference}
-use Rattle.adr_law_headline.specs.Formed.{HasTypedNumbers, AreAllTyped, AreSupported}
-use Rattle.adr_law_headline.specs.Printable.{AreWholeValues, IsWholeWrite, WritesSo, WriteWhole}
+use Rattle.adr_law_headline.specs.Formed.{HasTypedNumbers, AreAllTyped}
+use Rattle.adr_law_headline.specs.Printable.{AreWholeValues, IsWholeEvent, IsWholeWrite, WriteWhole}
 
 -- ---- values
 
@@ -72,13 +71,18 @@ write_typed (Delete guid) (of_guid, end) = of_guid.1.0.0
 write_typed (Link from attr to) (of_from, (of_attr, (of_to, end))) = (of_from.1.0.0, of_to.1.0.0)
 write_typed (Unlink from attr to) (of_from, (of_attr, (of_to, end))) = (of_from.1.0.0, of_to.1.0.0)
 
+version_known : (version : ℕ) → IsVersion version → is_version version ≡ true
+version_known version (inl first) = rw first refl
+version_known version (inr second) = rw second refl
+
 pub event_typed : (e : Event) → IsAllowed e → IsTyped e
 unfolding tokens_behind
 event_typed (events.Controller name dsa inv) (line, (verb, (to, (of_dsa, (of_inv, end))))) = (of_dsa.1.0.0, of_inv.1.0.0)
 event_typed (events.Calls name (calls.Write what)) (line, (verb, (to, behind))) = write_typed what behind
 event_typed (events.Restore name image inv) (line, (verb, (to, (of_image, (of_inv, end))))) = of_inv.1.0.0
 event_typed (events.Install name dsa image inv) (line, (verb, (to, (of_dsa, (of_image, (of_inv, end)))))) = (of_dsa.1.0.0, of_inv.1.0.0)
-event_typed (events.Revive name guid image parent text) allowed = absurd allowed.0
+event_typed (events.Revive name guid image parent text) (line, (verb, (to, (of_guid, (of_image, (of_parent, (of_text, end))))))) = (of_guid.1.0.0, of_parent.1.0.0, text_typed text of_text.1.0)
+event_typed (events.Ask name partner max version bind) allowed = version_known version allowed.0.1
 event_typed _ allowed = tt
 
 -- what may follow from the beginning on is typed
@@ -123,16 +127,12 @@ write_whole (Delete guid) (of_guid, end) = of_guid.1.0
 write_whole (Link from attr to) (of_from, (of_attr, (of_to, end))) = (of_from.1.0, of_to.1.0)
 write_whole (Unlink from attr to) (of_from, (of_attr, (of_to, end))) = (of_from.1.0, of_to.1.0)
 
-event_whole : (e : Event) → IsAllowed e → WritesSo IsWholeWrite e
+event_whole : (e : Event) → IsAllowed e → IsWholeEvent e
 unfolding tokens_behind
+event_whole (events.Revive name guid image parent text) (line, (verb, (to, (of_guid, (of_image, (of_parent, more)))))) = (of_guid.1.0, of_parent.1.0)
 event_whole (events.Calls name (calls.Write what)) (line, (verb, (to, behind))) = write_whole what behind
 event_whole _ allowed = tt
 
 -- what may follow from the beginning on is whole
 pub following_whole : (es : List Event) → IsFollowing nothing_seen es → WriteWhole es
-following_whole es follow = all_so (WritesSo IsWholeWrite) event_whole es nothing_seen follow
-
--- ---- what the program does
-
-pub following_supported : (es : List Event) → IsFollowing nothing_seen es → AreSupported es
-following_supported es follow = all_so IsSupported (λ e allowed. lined_supported e allowed.0) es nothing_seen follow
+following_whole es follow = all_so IsWholeEvent event_whole es nothing_seen follow

@@ -1,5 +1,5 @@
 -- Rows whose identifiers have sixteen bytes, the live objects of such rows, and what a client's write writes where they are held.
-use Rattle.std.proofs.Common.{◌≡◌, ◌==◌, inl, inr, ℕ, List, [], ◌∷◌, Bool, true, false, cond, Option, Some, None, refl, sym, ap, subst, map}
+use Rattle.std.proofs.Common.{◌≡◌, ◌==◌, inl, inr, unwrap_or, ℕ, List, [], ◌∷◌, Bool, true, false, cond, Option, Some, None, refl, sym, ap, subst, map}
 use Rattle.std.specs.List.{list_all}
 use Rattle.std.specs.Option.{option_map_or, option_and_then}
 use Rattle.adr_values.specs.declared.stamp.Oid.{Oid}
@@ -7,19 +7,22 @@ use Rattle.adr_values.specs.declared.stamp.LinkKey.{LinkKey}
 use Rattle.adr_values.specs.declared.stamp.LinkStamp.{LinkStamp}
 use Rattle.adr_values.specs.Assignments.{Given}
 use Rattle.adr_values.specs.declared.content.Content.{Content}
+use Rattle.adr_values.specs.declared.content.Value.{Value as Item}
+use Rattle.adr_call.specs.declared.directory.Entry.{Entry}
 use Rattle.adr_values.specs.declared.content.Content.TheVariants.{Class, Name, Dead, Values}
 use Rattle.adr_token.specs.Laws.{IsIdentifier}
 use Rattle.adr_model.specs.Member.{Member, Each}
-use Rattle.adr_model.specs.Update.{Identifier, Key, RowOf, LinkOf, Said, Holds, IsPresent, Update, same_key, same_identifier, ends, class_attr, name_attr, deleted_attr}
-use Rattle.adr_model.specs.Store.{State, updates_of}
+use Rattle.adr_model.specs.Update.{Identifier, Key, RowOf, LinkOf, Said, Holds, IsPresent, Update, same_key, same_identifier, same_object, ends, class_attr, name_attr, deleted_attr}
+use Rattle.adr_model.specs.Store.{Store, State, updates_of}
+use Rattle.adr_model.specs.Directory.{directory, entry_of, values_at, values_in, with_values}
 use Rattle.adr_model.specs.Winner.{winners}
 use Rattle.adr_model.specs.Live.{live, is_among, live_rows}
 use Rattle.adr_model.specs.Place.{Node, root, row_at, with_name, node_of, node_at}
-use Rattle.adr_model.specs.Write.{Write, AddObject, Modify, Rename, Delete, AddLink, RemoveLink, Revive, nodes_held, object_of, link_of, row, new_object, first_stamp, next_stamp, next_row, rows_written}
+use Rattle.adr_model.specs.Write.{Write, AddObject, Modify, Rename, Delete, AddLink, RemoveLink, Revive, entry_in, no_entry, shown_in, nodes_held, object_of, link_of, row, new_object, new_rows, first_stamp, next_stamp, next_row, rows_written}
 use Rattle.adr_model.proofs.Members.{of_filter, found_member, of_filter_map, mapped_member}
 use Rattle.adr_model.proofs.Nodes.{IsNodeOf, is_node_of}
 use Rattle.adr_law_knowledge.proofs.Winners.{is_won, of_winners}
-use Rattle.adr_law_headline.specs.Printable.{IsWholeRow, IsWholeSaid, IsWholeWrite}
+use Rattle.adr_law_headline.specs.Printable.{AreWholeValues, IsWholeRow, IsWholeSaid, IsWholeWrite}
 
 -- ---- nodes
 
@@ -79,6 +82,46 @@ module _ (rows : List Update) where
         by None e = given
         by (Some n) e = guid_whole n (found_member (λ (p : Node). same_identifier p.object.guid guid) (nodes_held rows) n e).0
 
+  -- ---- what is shown
+
+  given_said : (o : Oid) (k : Key) (said : Said) (g : Given) → values_in o k said ≡ Some g → said ≡ Holds (Values g.1)
+  given_said o (RowOf p attr) (Holds (Values vs)) g e = by (same_object p o) vs e
+    where
+      some : (vs : List Item) → with_values attr vs ≡ Some g → Holds (Values vs) ≡ Holds (Values g.1)
+      some [] h = absurd (cc)
+      some (v ∷ vs) h = let same : (attr, v ∷ vs) ≡ g = cc in ap (λ (x : Given). Holds (Values x.1)) same
+
+      by : (b : Bool) (vs : List Item) → cond b (with_values attr vs) None ≡ Some g → Holds (Values vs) ≡ Holds (Values g.1)
+      by true vs h = some vs h
+      by false vs h = absurd (cc)
+  given_said o (RowOf p attr) (Holds (Class class)) g e = absurd (cc)
+  given_said o (RowOf p attr) (Holds (Name text parent)) g e = absurd (cc)
+  given_said o (RowOf p attr) (Holds Dead) g e = absurd (cc)
+  given_said o (RowOf p attr) (IsPresent b) g e = absurd (cc)
+  given_said o (LinkOf l) said g e = absurd (cc)
+
+  values_whole : Each IsWholeRow rows → (o : Oid) → AreWholeValues (values_at (live_rows rows) o)
+  values_whole whole o g m =
+      let u = of_filter_map (λ (v : Update). values_in o v.key v.said) (live_rows rows) g m in
+      subst IsWholeSaid (given_said o u.0.key u.0.said g u.2) (whole u.0 (live_row rows u.0 u.1)).says
+
+-- the values of an entry of an image are those of its rows
+entry_whole : (image : Store) (guid : Identifier) → Each IsWholeRow (updates_of image.rows) → AreWholeValues (entry_in image guid).values
+entry_whole image guid whole = by (shown_in image guid) refl
+  where
+    rows : List Update
+    rows = updates_of image.rows
+
+    of_entry : (e : Entry) → Member e (directory rows) → AreWholeValues e.values
+    of_entry e m =
+        let n = mapped_member (entry_of (live_rows rows) (nodes_held rows)) (nodes_held rows) e m in
+        subst (λ (x : Entry). AreWholeValues x.values) (sym n.2) (values_whole rows whole n.0.object)
+
+    by : (o : Option Entry) → shown_in image guid ≡ o → AreWholeValues (entry_in image guid).values
+    by None is = subst (λ (x : Entry). AreWholeValues x.values) (sym (ap (λ (o : Option Entry). unwrap_or o (no_entry guid)) is)) (λ g m. absurd m)
+    by (Some e) is = subst (λ (x : Entry). AreWholeValues x.values) (sym (ap (λ (o : Option Entry). unwrap_or o (no_entry guid)) is))
+        (of_entry e (found_member (λ (x : Entry). same_identifier x.guid guid) (directory rows) e is).0)
+
 -- ---- what is written
 
 row_whole : (o : Oid) (stamp : LinkStamp) (attr : ℕ) (content : Content) → IsIdentifier o.guid → IsWholeSaid (Holds content) → IsWholeRow (row o stamp attr content)
@@ -88,7 +131,7 @@ row_whole o stamp attr content guid says = record { about = each; says = says }
     each p (inl e) = subst (λ (q : Oid). IsIdentifier q.guid) (sym e) guid
     each p (inr m) = absurd m
 
-link_whole : (l : LinkKey) (stamp : LinkStamp) (present : Bool) → IsIdentifier l.from.guid → IsIdentifier l.to.guid
+pub link_whole : (l : LinkKey) (stamp : LinkStamp) (present : Bool) → IsIdentifier l.from.guid → IsIdentifier l.to.guid
     → IsWholeRow (record { key = LinkOf l; stamp = stamp; said = IsPresent present })
 link_whole l stamp present from to = record { about = each; says = tt }
   where
@@ -97,12 +140,13 @@ link_whole l stamp present from to = record { about = each; says = tt }
     each p (inr (inl e)) = subst (λ (q : Oid). IsIdentifier q.guid) (sym e) to
     each p (inr (inr m)) = absurd m
 
-only : (u : Update) → IsWholeRow u → Each IsWholeRow (u ∷ [])
+pub only : (u : Update) → IsWholeRow u → Each IsWholeRow (u ∷ [])
 only u whole v (inl e) = subst IsWholeRow (sym e) whole
 only u whole v (inr m) = absurd m
 
-pub written_whole : (s : State) (w : Write) (now : ℕ) → Each IsWholeRow (updates_of s.store.rows) → IsWholeWrite w → Each IsWholeRow (rows_written s w now).rows
-written_whole s (AddObject guid class parent text values) now whole given = each
+new_whole : (s : State) (guid : Identifier) (class : ℕ) (parent : Identifier) (text : List ℕ) (values : List Given) (now : ℕ) → IsIdentifier guid → IsIdentifier parent → AreWholeValues values
+    → Each IsWholeRow (new_rows (new_object s guid) (first_stamp s now) class parent text values)
+new_whole s guid class parent text values now of_guid of_parent of_values = each
   where
     o : Oid
     o = new_object s guid
@@ -111,10 +155,13 @@ written_whole s (AddObject guid class parent text values) now whole given = each
     value_row g = row o (first_stamp s now) g.0 (Values g.1)
 
     each : Each IsWholeRow (row o (first_stamp s now) class_attr (Class class) ∷ row o (first_stamp s now) name_attr (Name text parent) ∷ map value_row values)
-    each u (inl e) = subst IsWholeRow (sym e) (row_whole o (first_stamp s now) class_attr (Class class) given.0 tt)
-    each u (inr (inl e)) = subst IsWholeRow (sym e) (row_whole o (first_stamp s now) name_attr (Name text parent) given.0 given.1)
+    each u (inl e) = subst IsWholeRow (sym e) (row_whole o (first_stamp s now) class_attr (Class class) of_guid tt)
+    each u (inr (inl e)) = subst IsWholeRow (sym e) (row_whole o (first_stamp s now) name_attr (Name text parent) of_guid of_parent)
     each u (inr (inr m)) = let g = mapped_member value_row values u m in
-        subst IsWholeRow (sym g.2) (row_whole o (first_stamp s now) g.0.0 (Values g.0.1) given.0 (given.2 g.0 g.1))
+        subst IsWholeRow (sym g.2) (row_whole o (first_stamp s now) g.0.0 (Values g.0.1) of_guid (of_values g.0 g.1))
+
+pub written_whole : (s : State) (w : Write) (now : ℕ) → Each IsWholeRow (updates_of s.store.rows) → IsWholeWrite w → Each IsWholeRow (rows_written s w now).rows
+written_whole s (AddObject guid class parent text values) now whole given = new_whole s guid class parent text values now given.0 given.1 given.2
 written_whole s (Modify guid values) now whole given = each
   where
     o : Oid
@@ -140,4 +187,5 @@ written_whole s (RemoveLink from attr to) now whole given =
     let l = link_of (nodes_held (updates_of s.store.rows)) from attr to in
     only (record { key = LinkOf l; stamp = next_stamp s (LinkOf l) now; said = IsPresent false })
     (link_whole l (next_stamp s (LinkOf l) now) false (object_whole (updates_of s.store.rows) whole from given.0) (object_whole (updates_of s.store.rows) whole to given.1))
-written_whole s (Revive image guid parent text) now whole given = absurd given
+written_whole s (Revive image guid parent text) now whole given =
+    let e = entry_in image guid in new_whole s guid e.class parent text e.values now given.1 given.2 (entry_whole image guid given.0)

@@ -1,6 +1,5 @@
--- Every state of every run of events that the program does is what a log may lead to, whatever was taken, and also behind a rollback.
+-- Every state of every run is what a log may lead to, whatever was taken, and also behind a rollback.
 use Rattle.std.specs.Prelude.{List}
-use Rattle.adr_call.specs.Supported.{IsSupported}
 use Rattle.adr_call.specs.declared.event.Event.{Event}
 use Rattle.adr_call.specs.declared.event.Event.TheVariants as events
 use Rattle.adr_wire.specs.Ranges.{IsU32, IsU64}
@@ -24,11 +23,6 @@ HasTypedNumbers e = Unit {0}
 abbrev pub AreAllTyped : List Event → Type 0
 AreAllTyped es = Each (λ e. IsTyped e × HasTypedNumbers e) es
 
--- the program does each of the events. Of others states would have what records don't tell: times, another schema, an object that
--- came again
-abbrev pub AreSupported : List Event → Type 0
-AreSupported es = Each IsSupported es
-
 -- both states of each controller are those of a log: what a start would find, and what a crash would leave. Each is formed, its
 -- identifiers have sixteen bytes, every field is in the range of an image's, and the classes of its objects are known
 abbrev pub AreFormed : World → Type 0
@@ -39,4 +33,4 @@ abbrev pub AreFormedThroughout : List Event → Type 0
 AreFormedThroughout es = HoldsAlways es AreFormed
 
 abbrev pub RunsAreFormed : Type 0
-RunsAreFormed = (es : List Event) → MayAllHappen empty_world es → AreSupported es → AreAllTyped es → AreFormedThroughout es
+RunsAreFormed = (es : List Event) → MayAllHappen empty_world es → AreAllTyped es → AreFormedThroughout es

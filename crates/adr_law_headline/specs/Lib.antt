@@ -4,5 +4,6 @@ pub mod Printable
 pub mod Modes
 pub mod Cycles
 pub mod Refused
+pub mod Revived
 pub mod Headline
 pub mod Exportable

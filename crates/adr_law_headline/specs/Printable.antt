@@ -7,39 +7,23 @@ use Rattle.adr_values.specs.Assignments.{Given}
 use Rattle.adr_values.specs.declared.content.Content.TheVariants.{Class, Name, Dead, Values}
 use Rattle.adr_call.specs.declared.directory.Entry.{Entry}
 use Rattle.adr_call.specs.declared.event.Event.{Event}
+use Rattle.adr_call.specs.declared.event.Event.TheVariants as events
 use Rattle.adr_token.specs.Laws.{IsIdentifier}
 use Rattle.adr_model.specs.Member.{Each}
 use Rattle.adr_model.specs.Update.{Said, Holds, IsPresent, Update, ends}
 use Rattle.adr_model.specs.Write.{Write, AddObject, Modify, Rename, Delete, AddLink, RemoveLink, Revive}
 use Rattle.adr_model.specs.Directory.{directory}
+use Rattle.adr_model.specs.Store.{updates_of}
 use Rattle.adr_model.specs.World.{World, empty_world, shown}
 use Rattle.adr_model.specs.Step.{ClientWrite, write_of}
 use Rattle.adr_model.specs.Convergence.{MayAllHappen, held_by}
 use Rattle.adr_answers.specs.Printable.{IsPrintable}
 use Rattle.adr_answers.specs.Laws.{IsWholeReference}
 use Rattle.adr_law_headline.specs.Throughout.{HoldsAlways}
-use Rattle.adr_law_headline.specs.Formed.{AreSupported, AreAllTyped}
+use Rattle.adr_law_headline.specs.Formed.{AreAllTyped}
 
 abbrev pub AreWholeValues : List Given → Type 0
 AreWholeValues values = Each (λ (g : Given). Each IsWholeReference g.1) values
-
--- the identifiers of a write have sixteen bytes
-abbrev pub IsWholeWrite : Write → Type 0
-IsWholeWrite (AddObject guid class parent text values) = IsIdentifier guid × IsIdentifier parent × AreWholeValues values
-IsWholeWrite (Modify guid values) = IsIdentifier guid × AreWholeValues values
-IsWholeWrite (Rename guid parent text) = IsIdentifier guid × IsIdentifier parent
-IsWholeWrite (Delete guid) = IsIdentifier guid
-IsWholeWrite (AddLink from attr to) = IsIdentifier from × IsIdentifier to
-IsWholeWrite (RemoveLink from attr to) = IsIdentifier from × IsIdentifier to
-IsWholeWrite (Revive image guid parent text) = ⊥  -- its image is none of the event's
-
--- if an event alone says a write, something holds of what is written
-abbrev pub WritesSo : (Write → Type 0) → Event → Type 0
-WritesSo Q e = IfSome (write_of empty_world e) (λ (w : ClientWrite). Q w.what)
-
--- what each of the events writes is whole
-abbrev pub WriteWhole : List Event → Type 0
-WriteWhole es = Each (WritesSo IsWholeWrite) es
 
 -- ---- rows
 
@@ -56,6 +40,31 @@ pub record IsWholeRow (u : Update) : Type 0 where
   pub about : Each (λ (o : Oid). IsIdentifier o.guid) (ends u.key)
   pub says : IsWholeSaid u.said
 
+-- ---- writes
+
+-- the identifiers of a write have sixteen bytes, and so have those of the rows of an image
+abbrev pub IsWholeWrite : Write → Type 0
+IsWholeWrite (AddObject guid class parent text values) = IsIdentifier guid × IsIdentifier parent × AreWholeValues values
+IsWholeWrite (Modify guid values) = IsIdentifier guid × AreWholeValues values
+IsWholeWrite (Rename guid parent text) = IsIdentifier guid × IsIdentifier parent
+IsWholeWrite (Delete guid) = IsIdentifier guid
+IsWholeWrite (AddLink from attr to) = IsIdentifier from × IsIdentifier to
+IsWholeWrite (RemoveLink from attr to) = IsIdentifier from × IsIdentifier to
+IsWholeWrite (Revive image guid parent text) = Each IsWholeRow (updates_of image.rows) × IsIdentifier guid × IsIdentifier parent
+
+-- if an event alone says a write, something holds of what is written
+abbrev pub WritesSo : (Write → Type 0) → Event → Type 0
+WritesSo Q e = IfSome (write_of empty_world e) (λ (w : ClientWrite). Q w.what)
+
+-- what an event says of what is written is whole; a revival's image is none of the event's
+abbrev pub IsWholeEvent : Event → Type 0
+IsWholeEvent (events.Revive name guid image parent text) = IsIdentifier guid × IsIdentifier parent
+IsWholeEvent e = WritesSo IsWholeWrite e
+
+-- each of the events is so
+abbrev pub WriteWhole : List Event → Type 0
+WriteWhole es = Each IsWholeEvent es
+
 -- ---- runs
 
 -- every controller's directory is so: that of what it holds, and what it answers where it is asked
@@ -71,7 +80,7 @@ ArePrintableThroughout es = HoldsAlways es ShowPrintable
 
 -- every run is so of events that the program does, and that write what is whole
 abbrev pub RunsAre : (List Event → Type 0) → Type 0
-RunsAre AreSo = (es : List Event) → MayAllHappen empty_world es → AreSupported es → AreAllTyped es → WriteWhole es → AreSo es
+RunsAre AreSo = (es : List Event) → MayAllHappen empty_world es → AreAllTyped es → WriteWhole es → AreSo es
 
 abbrev pub RunsArePrintable : Type 0
 RunsArePrintable = RunsAre ArePrintableThroughout

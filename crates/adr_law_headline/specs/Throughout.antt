@@ -16,6 +16,10 @@ HoldsThroughout es P = HoldsBehind es (λ before. P (behind before))
 abbrev pub HoldsOfEachLine : List Event → (World → Event → Type 0) → Type 0
 HoldsOfEachLine es P = (before after : List Event) (e : Event) → es ≡ before ++ e ∷ after → (behind before).clean ≡ true → P (behind before) e
 
+-- and whether or not a database was put back
+abbrev pub HoldsOfEveryLine : List Event → (World → Event → Type 0) → Type 0
+HoldsOfEveryLine es P = (before after : List Event) (e : Event) → es ≡ before ++ e ∷ after → P (behind before) e
+
 -- what holds whether or not a database was put back: of the world at every place of a run, and of every world on the way of the
 -- line that comes next
 abbrev pub HoldsAlways : List Event → (World → Type 0) → Type 0

@@ -14,7 +14,7 @@ ghost use Rattle.adr_call.specs.declared.event.Event.{Event};
 ghost use Rattle.adr_model.specs.Convergence.{MayAllHappen};
 ghost use Rattle.adr_model.specs.World.{empty_world};
 ghost use Rattle.adr_schedule.specs.Seen.{IsFollowing, nothing_seen};
-ghost use Rattle.adr_law_headline.specs.Formed.{AreAllTyped, AreSupported, RunsAreFormed};
+ghost use Rattle.adr_law_headline.specs.Formed.{AreAllTyped, RunsAreFormed};
 ghost use Rattle.adr_law_headline.specs.Printable.{RunsArePrintable, WriteWhole};
 ghost use Rattle.adr_law_headline.specs.Headline.{Headline, IsHeadline};
 
@@ -30,17 +30,10 @@ pub fn lines_may_happen()
 {}
 
 /// What lines say is typed: the identifiers that they give and write have sixteen bytes, written texts are UTF-8, number
-/// values and times have 64 bits, and how many items are asked for has 32.
+/// values and times have 64 bits, how many items are asked for has 32, and it is asked in a version that is known.
 #[tactic(auto, using(crate::proofs::Typing::following_all_typed))]
 pub fn lines_are_typed()
     ensures { (events : List Event) → IsFollowing nothing_seen events → AreAllTyped events }
-{}
-
-/// What lines say, the program does: none changes a controller over to another schema or has an object come again, and
-/// what is asked is asked in version 1.
-#[tactic(auto, using(crate::proofs::Typing::following_supported))]
-pub fn lines_are_supported()
-    ensures { (events : List Event) → IsFollowing nothing_seen events → AreSupported events }
 {}
 
 /// What lines say is whole: also the bytes of identifiers are in range.

@@ -4,8 +4,8 @@ use Rattle.std.specs.Bool.{then_some}
 use Rattle.std.specs.Prelude.{if◌then◌else◌, is_some}
 use Rattle.std.specs.BTreeMap.{is_at}
 use Rattle.std.specs.List.{AllByRecursion}
-use Rattle.std.specs.Option.{IfSome}
-use Rattle.std.proofs.lemmas.Bool.{and_from, and_parts, le-leb, leb-true, leb-false}
+use Rattle.std.specs.Option.{IfSome, option_map}
+use Rattle.std.proofs.lemmas.Bool.{and_from, and_parts, eqb-true, le-leb, leb-true, leb-false}
 use Rattle.adr_values.specs.declared.stamp.Oid.{Oid}
 use Rattle.adr_values.specs.declared.stamp.Unit.{Unit as Named}
 use Rattle.adr_values.specs.declared.stamp.Unit.TheVariants.{Object}
@@ -17,6 +17,7 @@ use Rattle.adr_values.specs.Times.{AreTimesOf}
 use Rattle.adr_values.specs.declared.mark.Mark.{Mark}
 use Rattle.adr_values.proofs.Moments.{no_times}
 use Rattle.adr_wire.specs.Composites.{Row, is_ordered}
+use Rattle.adr_wire.specs.Headed.{is_version}
 use Rattle.adr_wire.specs.Optional.{IsIfThere}
 use Rattle.adr_wire.specs.Pieces.{Piece, OfRows, OfLink, IsPiece}
 use Rattle.adr_wire.specs.Ranges.{InTurn, IsCursors, IsCursor, IsId, IsMark, IsOid, IsRowAbove, IsU32, IsU64}
@@ -30,7 +31,7 @@ use Rattle.adr_model.specs.Place.{identifier}
 use Rattle.adr_model.specs.Serve.{Request, Reply, ask, begins_at, byte_limit, candidates, item_of, reply_to, serve_refusal, serve, times_told}
 use Rattle.adr_model.specs.Spelled.{IsSpelledItem, IsSpelledReply, SayOfTheirKeys}
 use Rattle.adr_model.specs.Store.{Held, PartnerMark, State, kept_of, no_mark, updates_of}
-use Rattle.adr_model.specs.Take.{is_reserved_row, times_brought}
+use Rattle.adr_model.specs.Take.{is_reserved_row}
 use Rattle.adr_model.specs.Update.{Identifier, Key, RowOf, LinkOf, Update, deleted_attr, same_identifier, unit_of}
 use Rattle.adr_model.proofs.Members.{mapped_member, member_left}
 use Rattle.adr_law_knowledge.proofs.Refusing.{answered}
@@ -60,10 +61,11 @@ use Rattle.adr_law_recorded.proofs.Served.{logged_says, served_in_range}
 schema_in_range : (s : State) → IsLogged s → IsU32 s.store.schema
 schema_in_range s logged = number_small s.store.schema logged.spelled.schema
 
-pub asked_formed : (s : State) (partner : Identifier) (max : ℕ) → IsLogged s → IsId partner → 1 ≤ max → IsU32 max → IsRequest (ask s partner max 1)
-asked_formed s partner max logged id some few =
+pub asked_formed : (s : State) (partner : Identifier) (max version : ℕ) → IsLogged s → IsId partner → 1 ≤ max → IsU32 max → is_version version ≡ true
+    → IsRequest (ask s partner max version)
+asked_formed s partner max version logged id some few known =
     record {
-      version = refl;
+      version = known;
       dest = logged.dsa;
       source = id;
       inv = kept (λ (k : PartnerMark). IsId k.inv) refl (λ k m. (logged.spelled.marks k m).1.0);
@@ -181,14 +183,28 @@ module _ (s : State) (q : Request) (now : ℕ) (logged : IsLogged s) (asked : Is
       by true = asked.mark
       by false = no_mark_in_range
 
-  last_formed : (b : Bool) → IsIfThere IsCursors (then_some b s.store.vector)
-  last_formed true = (logged.formed.store.vector, logged.spelled.vector)
-  last_formed false = tt
+  abbrev told : Bool → Cursors
+  told b = if b && (q.version == 2) then times_told s now else []
 
   -- a reply of version 1 tells no times
-  none_told : (b : Bool) → (if b && (q.version == 2) then times_told s now else []) ≡ []
-  none_told true = ap (λ (n : ℕ). if n == 2 then times_told s now else []) asked.version
-  none_told false = refl
+  none_told : (q.version == 1) ≡ true → told true ≡ []
+  none_told one = ap (λ (n : ℕ). if n == 2 then times_told s now else []) (eqb-true q.version 1 one)
+
+  last_formed : (b : Bool) → AreTimesOf (unwrap_or (then_some b s.store.vector) []) (cond (is_some (then_some b s.store.vector)) (told b) [])
+      → AllByRecursion (λ t. IsU64 t.1) (told b) → IsIfThere (IsTimed q.version) (option_map (λ v. (v, told b)) (then_some b s.store.vector))
+  last_formed true times moments = record {
+    is = record { cursors = (logged.formed.store.vector, logged.spelled.vector); times = times; moments = moments };
+    none = none_told;
+  }
+  last_formed false times moments = tt
+
+  -- nor does one that isn't the last
+  untold : (b : Bool) → then_some b s.store.vector ≡ None → told b ≡ []
+  untold true e = absurd (cc)
+  untold false e = refl
+
+  abbrev is_last : Bool
+  is_last = length (answer.sent s q now logged.formed says none) == length (candidates s.store.rows (begins_at s q) q.vector)
 
   reply_formed : IsReply (reply_to s q now)
   reply_formed = record {
@@ -200,8 +216,8 @@ module _ (s : State) (q : Request) (now : ℕ) (logged : IsLogged s) (asked : Is
     to = (ranged.to, in_order (reply_to s q now).to spelled.to);
     schema = schema_in_range s logged;
     asked = asked.vector;
-    last = last_formed (length (answer.sent s q now logged.formed says none) == length (candidates s.store.rows (begins_at s q) q.vector));
-    times = none_told (length (answer.sent s q now logged.formed says none) == length (candidates s.store.rows (begins_at s q) q.vector));
+    told = last_formed is_last spelled.times ranged.times;
+    untold = untold is_last;
     items = (ranged.few, each_in_turn None (reply_to s q now).items (item_formed s q now logged says none spelled ranged));
   }
 
@@ -250,32 +266,40 @@ piece_right (OfRows x) q u m = rows_right x.0 None x.1 q.0 q.1.1 u m
 piece_right (OfLink l) q u (inl e) = subst IsRightUpdate (sym e) (q.0.0, q.0.1.0, q.0.1.1, q.1.0, q.1.1)
 piece_right (OfLink l) q u (inr m) = absurd m
 
-last_taken : (o : Option Cursors) → IsIfThere IsCursors o → IsVector (unwrap_or o []) × IfSome o (AllByRecursion IsCursor)
-last_taken None q = (nothing_is_vector, tt)
-last_taken (Some v) q = (q.0, q.1)
+-- the vector of a last reply, and what is told beside it
+record IsLastTaken (last : Option Cursors) (times : Cursors) : Type 0 where
+  vector : IsVector (unwrap_or last [])
+  cursors : IfSome last (AllByRecursion IsCursor)
+  told : AreTimesOf (unwrap_or last []) (cond (is_some last) times [])
+  moments : AllByRecursion (λ t. IsU64 t.1) times
 
-none_brought : (r : Reply) → r.times ≡ [] → times_brought r ≡ []
-none_brought r none = by (is_some r.last)
-  where
-    by : (b : Bool) → cond b r.times [] ≡ []
-    by true = none
-    by false = refl
+last_taken : (version : ℕ) (last : Option Cursors) (times : Cursors) → IsIfThere (IsTimed version) (option_map (λ v. (v, times)) last) → (last ≡ None → times ≡ [])
+    → IsLastTaken last times
+last_taken version None times q none = record {
+  vector = nothing_is_vector;
+  cursors = tt;
+  told = no_times [];
+  moments = subst (AllByRecursion (λ t. IsU64 t.1)) (sym (none refl)) tt;
+}
+last_taken version (Some v) times q none = record { vector = q.is.cursors.0; cursors = q.is.cursors.1; told = q.is.times; moments = q.is.moments }
 
 pub reply_taken : (r : Reply) → IsReply r → IsSpelledReply r × IsRangedReply r
 reply_taken r p =
-    let items = from_turn None r.items p.items.1 in (
+    let items = from_turn None r.items p.items.1 in
+    let last = last_taken r.version r.last r.times p.told p.untold in (
       record {
         to = ordered r.to p.to.1;
-        last = (last_taken r.last p.last).0;
-        times = subst (AreTimesOf (unwrap_or r.last [])) (sym (none_brought r p.times)) (no_times (unwrap_or r.last []));
+        last = last.vector;
+        times = last.told;
         items = λ i m. let q = items i m in subst IsSpelledItem (sym q.says) (piece_spelled q.piece q.in_range);
       },
       record {
+        version = p.version;
         source = p.source;
         inv = p.inv;
         to = p.to.0;
-        last = (last_taken r.last p.last).1;
-        times = subst (AllByRecursion (λ t. IsU64 t.1)) (sym p.times) tt;
+        last = last.cursors;
+        times = last.moments;
         few = p.items.0;
         items = λ i m. let q = items i m in subst IsRangedItem (sym q.says) (piece_right q.piece q.in_range);
       },

@@ -332,12 +332,12 @@ has_writes last usn (w ∷ ws) fits rise right =
 
 -- ---- a change that only writes
 
-pub writes_in_range : (s : State) (usn : ℕ) (mode : Mode) (writes : List Written) → IsUsn0 usn → length writes < 2 ^ 32
+pub writes_in_range : (s : State) → is_schema s.store.schema ≡ true → (usn : ℕ) (mode : Mode) (writes : List Written) → IsUsn0 usn → length writes < 2 ^ 32
     → Each (λ (u : Update). IsSpelledRow u.key u.said u.stamp) (updates_written (record (unchanged s) { writes = writes }))
-    → IsInRange s.store.schema (record (unchanged s) { usn = usn; mode = mode; writes = writes })
-writes_in_range s usn mode writes most few rows = record {
+    → IsInRange (record (unchanged s) { usn = usn; mode = mode; writes = writes })
+writes_in_range s known usn mode writes most few rows = record {
   usn = most;
-  schema = refl;
+  schema = known;
   mark = tt;
   joined = tt;
   times = tt;
@@ -366,15 +366,14 @@ mode_told : (m : Mode) → m ≡ mode_of_flag (is_quarantined m)
 mode_told Normal = refl
 mode_told Quarantined = refl
 
-pub has_body : (s : State) (c : Change) → is_schema s.store.schema ≡ true → CanFollow s c → Each (λ w. AreBare w.item.rows) c.writes → IsInRange s.store.schema c
+pub has_body : (s : State) (c : Change) → CanFollow s c → Each (λ w. AreBare w.item.rows) c.writes → IsInRange c
     → HasBody area_version s.store.usn s.store.schema c
-has_body s c known follows bare q =
+has_body s c follows bare q =
     let form = in_turn_spelled _ s.store.vector s.store.rows c.writes follows.goes_on.writes in
     let w = has_writes s.store.usn c.usn c.writes q.usn follows.goes_on.locals
     (λ w m. (form w m, bare w m, λ u n. q.rows u (member_flat (λ (x : Written). x.item.rows) c.writes w u m n))) in
     let long : length w.writes ≡ length c.writes = sym (mapped_long written_of w.writes) ∙ ap length w.says in
     let fits = q.few in
-    let number : is_schema c.schema ≡ true = subst (λ (n : ℕ). is_schema n ≡ true) (sym q.schema) known in
     record {
       body = (c.usn, (is_quarantined c.mode, (c.schema, (c.mark, ((c.joined, c.times), (c.purged, (c.removed, w.writes)))))));
       in_range = (
@@ -382,7 +381,7 @@ has_body s c known follows bare q =
         (
           tt,
           (
-            (number_small c.schema number, number),
+            (number_small c.schema q.schema, q.schema),
             (
               mark_right c.mark follows.goes_on.mark q.mark,
               (
@@ -399,5 +398,5 @@ has_body s c known follows bare q =
     }
 
 pub recorded : (s : State) (c : Change) → IsLogged s → CanFollow s c → Each (λ w. AreBare w.item.rows) c.writes
-    → IsInRange s.store.schema c → MayBeRecorded s c
-recorded s c logged follows bare q = record { logged = logged; follows = follows; body = has_body s c logged.spelled.schema follows bare q }
+    → IsInRange c → MayBeRecorded s c
+recorded s c logged follows bare q = record { logged = logged; follows = follows; body = has_body s c follows bare q }

@@ -1,4 +1,4 @@
--- Quarantines and collections can be recorded.
+-- Quarantines, change-overs to schema 2 and collections can be recorded.
 use Rattle.std.proofs.Common.{◌≡◌, ℕ, ◌≤◌, Bool, true, false, cond, List, [], ◌∷◌, fold, map, Ok, refl, sym, subst, inl, inr, ⊎_elim, arith}
 use Rattle.std.specs.Prelude.{nat_lt}
 use Rattle.std.specs.Bool.{then_some}
@@ -22,6 +22,7 @@ use Rattle.adr_model.specs.Formed.{IsNamed}
 use Rattle.adr_model.specs.Live.{objects_of}
 use Rattle.adr_model.specs.Member.{Each, Member}
 use Rattle.adr_model.specs.Serve.{is_quarantined}
+use Rattle.adr_model.specs.Upgrade.{upgraded, upgrade_refusal, upgrade}
 use Rattle.adr_model.specs.Store.{Normal, Quarantined, State, updates_of}
 use Rattle.adr_model.specs.Update.{Identifier, Key, RowOf, LinkOf, Said, Holds, IsPresent, Update, inv_of, usn_of, deleted_attr}
 use Rattle.adr_model.specs.Write.{usn_limit}
@@ -36,15 +37,38 @@ use Rattle.adr_law_calls.proofs.Deaths.{all_collectable}
 use Rattle.adr_law_calls.specs.Taken.{AreBare}
 use Rattle.adr_law_calls.proofs.Collected.{collected_follows, collected_rise}
 use Rattle.adr_law_calls.proofs.Said.{neither}
-use Rattle.adr_law_calls.proofs.Still.{quarantine_follows}
+use Rattle.adr_law_calls.proofs.Still.{quarantine_follows, upgrade_follows}
 use Rattle.adr_image.specs.Stored.{IsSpelledRow}
 use Rattle.adr_records.specs.Logged.{IsLogged, MayBeRecorded}
 use Rattle.adr_law_recorded.specs.InRange.{IsInRange}
+use Rattle.adr_law_recorded.specs.Laws.{UpgradeIsRecorded}
 use Rattle.adr_law_recorded.proofs.Bodied.{recorded, writes_in_range}
 
 pub quarantine_is_recorded : (s : State) → IsLogged s → s.mode ≡ Normal → MayBeRecorded s (quarantine s)
 quarantine_is_recorded s logged normal = recorded s (quarantine s) logged (quarantine_follows s logged.formed logged.classes normal) (λ w m. absurd m)
-    (writes_in_range s s.store.usn Quarantined [] logged.spelled.usn (omega arith) (λ u m. absurd m))
+    (writes_in_range s logged.spelled.schema s.store.usn Quarantined [] logged.spelled.usn (omega arith) (λ u m. absurd m))
+
+-- only the number of the schema is another
+upgraded_in_range : (s : State) → IsLogged s → IsInRange (upgraded s)
+upgraded_in_range s logged = record {
+  usn = logged.spelled.usn;
+  schema = refl;
+  mark = tt;
+  joined = tt;
+  times = tt;
+  purged = tt;
+  removed = λ o m. absurd m;
+  few_removed = omega arith;
+  few = omega arith;
+  rows = λ u m. absurd m;
+}
+
+pub upgrade_is_recorded : UpgradeIsRecorded
+upgrade_is_recorded s c logged e =
+    let is = (answered (upgrade_refusal s) (upgraded s) c e).1 in
+    recorded s c logged (upgrade_follows s c logged.formed logged.classes e)
+    (subst (λ (x : Change). Each (λ w. AreBare w.item.rows) x.writes) is (λ w m. absurd m))
+    (subst IsInRange is (upgraded_in_range s logged))
 
 -- ---- what covers births and deaths in range is in range
 
@@ -111,13 +135,13 @@ module _ (s : State) (now lifetime : ℕ) (logged : IsLogged s) where
           let named : IsNamed (updates_of s.store.rows) d.0 = logged.formed.store.rows.named d.0 (d.1, deleted_attr, stands, g.dies) in
           among_objects (updates_of s.store.rows) named.of_class.0 d.0 named.of_class.1 named.of_class.2
 
-  in_range : (collection s dead).usn ≤ usn_limit → IsStrictlySortedBy object_order names → IsInRange s.store.schema (collection s dead)
+  in_range : (collection s dead).usn ≤ usn_limit → IsStrictlySortedBy object_order names → IsInRange (collection s dead)
   in_range most rise =
       let long = no_longer object_order objects_total exact_objects names (objects_of (updates_of s.store.rows)) (rises_from object_order names rise) name_born in
       let few = logged.formed.store.limits.objects in
       record {
         usn = omega (arith, most);
-        schema = refl;
+        schema = logged.spelled.schema;
         mark = tt;
         joined = tt;
         times = tt;
@@ -138,4 +162,4 @@ collection_is_recorded s now lifetime c logged e =
     let rise = subst (λ (x : Change). IsStrictlySortedBy object_order x.removed) (sym g.1) (collected_rise s now lifetime c logged.formed.store.rising e) in
     recorded s c logged (collected_follows s now lifetime c logged.formed logged.classes e)
     (subst (λ (x : Change). Each (λ w. AreBare w.item.rows) x.writes) g.1 (λ w m. absurd m))
-    (subst (IsInRange s.store.schema) g.1 (in_range s now lifetime logged most rise))
+    (subst IsInRange g.1 (in_range s now lifetime logged most rise))

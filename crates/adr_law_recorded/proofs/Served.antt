@@ -103,6 +103,7 @@ module _ (s : State) (q : Request) (now : ℕ) (logged : IsLogged s) (says : Say
 
   in_range : (b : Bool) → IsRangedReply (reply b)
   in_range b = record {
+    version = ranged.version;
     source = logged.dsa;
     inv = logged.inv;
     to = to_in_range b;

@@ -15,6 +15,7 @@ use Rattle.adr_model.specs.Serve.{Reply}
 use Rattle.adr_model.specs.Take.{Taking, begin, rows_taken, times_brought, writes_of, take_item, take}
 use Rattle.adr_law_calls.proofs.Passed.{passed}
 use Rattle.adr_law_calls.proofs.TakenFollow.{taken_bare, taken_brings, taken_follows}
+use Rattle.adr_image.specs.Whole.{is_schema}
 use Rattle.adr_law_recorded.specs.Ranged.{IsRangedReply}
 use Rattle.adr_law_recorded.specs.InRange.{IsInRange}
 use Rattle.adr_law_recorded.specs.Laws.{TakenIsRecorded}
@@ -51,13 +52,13 @@ brought_in_range r all = by (is_some r.last)
     by true = all
     by false = tt
 
-pub taken_in_range : (s : State) (r : Reply) (c : Change) → IsRangedReply r → take s r ≡ Ok c → IsInRange s.store.schema c
-taken_in_range s r c ranged e =
+pub taken_in_range : (s : State) (r : Reply) (c : Change) → is_schema s.store.schema ≡ true → IsRangedReply r → take s r ≡ Ok c → IsInRange c
+taken_in_range s r c known ranged e =
     let p = passed s r c e in
     let brings = taken_brings s r c e in
     record {
       usn = omega (arith, brings.1);
-      schema = subst (λ (x : Change). x.schema ≡ s.store.schema) p.1 refl;
+      schema = subst (λ (x : Change). is_schema x.schema ≡ true) p.1 known;
       mark = subst (λ m. IfSome m (λ (k : Identifier × PartnerMark). IsId k.0 × IsId k.1.inv × IsMark k.1.mark)) (sym brings.4)
           (ranged.source, ranged.inv, ranged.to);
       joined = subst (AllByRecursion IsCursor) (sym brings.2) (last_in_range r.last ranged.last);
@@ -74,4 +75,4 @@ taken_in_range s r c ranged e =
 pub taken_recorded : TakenIsRecorded
 taken_recorded s r c logged spelled ranged e =
     recorded s c logged (taken_follows s r c logged.formed logged.classes spelled e)
-    (taken_bare s r c logged.formed logged.classes spelled e) (taken_in_range s r c ranged e)
+    (taken_bare s r c logged.formed logged.classes spelled e) (taken_in_range s r c logged.spelled.schema ranged e)

@@ -376,9 +376,9 @@ module _ (s : State) where
       more_in_range (Revive image guid parent text) given typed none = links_in_range image guid parent text given typed none
 
       change_in_range : (w : Write) → IsWellGiven w → IsTypedWrite w → write_refusal s w ≡ None
-          → IsInRange s.store.schema (own_change s (items_written s w now))
+          → IsInRange (own_change s (items_written s w now))
       change_in_range w given typed none =
-          writes_in_range s (s.store.usn + length (items_written s w now)) Normal (items_written s w now) (omega (arith, more.0)) (omega (arith, more.1)) rows
+          writes_in_range s logged.spelled.schema (s.store.usn + length (items_written s w now)) Normal (items_written s w now) (omega (arith, more.0)) (omega (arith, more.1)) rows
         where
           ahead : IsWritten w
           ahead = rows_in_range w given typed none
@@ -400,4 +400,4 @@ write_is_recorded s w now c logged given typed time made =
     let t = answered (write_refusal s w) (own_change s (items_written s w now)) c made in
     recorded s c logged (write_follows s w now c logged.formed logged.classes given made)
     (write_is_bare s w now c logged.formed given made)
-    (subst (IsInRange s.store.schema) t.1 (change_in_range s logged now time w given typed t.0))
+    (subst IsInRange t.1 (change_in_range s logged now time w given typed t.0))

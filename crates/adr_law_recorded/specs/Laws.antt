@@ -1,5 +1,6 @@
 -- The laws, as facts: every change that a call makes of a state of a log can be recorded, and messages stay in their ranges.
 use Rattle.std.specs.Prelude.{◌≡◌, ◌<◌, ◌^◌, ℕ, Ok, true}
+use Rattle.adr_wire.specs.Headed.{is_version}
 use Rattle.adr_wire.specs.Ranges.{IsId, IsU32}
 use Rattle.adr_model.specs.Update.{Identifier}
 use Rattle.adr_model.specs.Formed.{IsFormedStore}
@@ -10,6 +11,7 @@ use Rattle.adr_model.specs.Take.{take}
 use Rattle.adr_model.specs.Write.{Write, write}
 use Rattle.adr_model.specs.Given.{IsWellGiven}
 use Rattle.adr_model.specs.Collect.{adopt, collect, quarantine}
+use Rattle.adr_model.specs.Upgrade.{upgrade}
 use Rattle.adr_state.specs.Refusal.{IsOverfull}
 use Rattle.adr_model.specs.Spelled.{IsSpelledReply}
 use Rattle.adr_image.specs.Stored.{IsSpelled}
@@ -35,7 +37,7 @@ RecordedIsLogged = (s : State) (c : Change) → MayBeRecorded s c → IsLogged (
 abbrev pub LoggedFits : Type 0
 LoggedFits = (s : State) → IsLogged s → IsOverfull s → ⊥
 
--- ---- what calls change: all but an upgrade
+-- ---- what calls change
 
 abbrev pub WrittenIsRecorded : Type 0
 WrittenIsRecorded =
@@ -53,10 +55,15 @@ CollectedIsRecorded =
 abbrev pub QuarantineIsRecorded : Type 0
 QuarantineIsRecorded = (s : State) → IsLogged s → s.mode ≡ Normal → MayBeRecorded s (quarantine s)
 
+abbrev pub UpgradeIsRecorded : Type 0
+UpgradeIsRecorded = (s : State) (c : Change) → IsLogged s → upgrade s ≡ Ok c → MayBeRecorded s c
+
 -- ---- messages
 
 abbrev pub AskedIsRanged : Type 0
-AskedIsRanged = (s : State) (partner : Identifier) (max : ℕ) → IsLogged s → IsU32 max → IsRangedRequest (ask s partner max 1)
+AskedIsRanged =
+    (s : State) (partner : Identifier) (max version : ℕ) → IsLogged s → IsU32 max → is_version version ≡ true
+    → IsRangedRequest (ask s partner max version)
 
 abbrev pub ServedIsRanged : Type 0
 ServedIsRanged =

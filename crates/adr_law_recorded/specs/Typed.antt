@@ -1,4 +1,5 @@
--- What an event's types say beyond the definitions: the identifiers that it gives and writes have sixteen bytes, written texts are UTF-8, and number values have 64 bits.
+-- What an event's types say beyond the definitions: the identifiers that it gives and writes have sixteen bytes, written texts are UTF-8, number values have 64
+-- bits, and a request is of a version that is known.
 use Rattle.std.specs.Prelude.{◌≡◌, List, true, FitsSigned}
 use Rattle.std.specs.Int.{w64}
 use Rattle.std.specs.Str.{is_utf8}
@@ -9,6 +10,7 @@ use Rattle.adr_call.specs.declared.call.Call.{Call}
 use Rattle.adr_call.specs.declared.call.Call.TheVariants as calls
 use Rattle.adr_call.specs.declared.event.Event.{Event}
 use Rattle.adr_call.specs.declared.event.Event.TheVariants as events
+use Rattle.adr_wire.specs.Headed.{is_version}
 use Rattle.adr_wire.specs.Ranges.{IsId}
 use Rattle.adr_model.specs.Member.{Each}
 use Rattle.adr_model.specs.Write.{Write, AddObject, Modify, Rename, Delete, AddLink, RemoveLink, Revive, write_meant}
@@ -45,6 +47,7 @@ IsTyped (events.Restore name image inv) = IsId inv
 IsTyped (events.Install name dsa image inv) = IsId dsa × IsId inv
 IsTyped (events.Revive name guid image parent text) = IsId guid × IsId parent × (is_utf8 text ≡ true)
 IsTyped (events.Calls name what) = IsTypedCall what
+IsTyped (events.Ask name partner max version bind) = is_version version ≡ true
 IsTyped e = Unit {0}
 
 abbrev pub AreTyped : List Event → Type 0

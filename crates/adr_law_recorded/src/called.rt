@@ -1,6 +1,6 @@
 //! What calls change.
 
-ghost use Rattle.adr_law_recorded.specs.Laws.{CollectedIsRecorded, QuarantineIsRecorded, TakenIsRecorded, WrittenIsRecorded};
+ghost use Rattle.adr_law_recorded.specs.Laws.{CollectedIsRecorded, QuarantineIsRecorded, TakenIsRecorded, UpgradeIsRecorded, WrittenIsRecorded};
 
 /// The change of a client's write can be recorded.
 #[tactic(none)]
@@ -25,4 +25,10 @@ pub fn collections_are_recorded()
 #[tactic(none)]
 pub fn quarantines_are_recorded()
     ensures { QuarantineIsRecorded }
+{}
+
+/// A change-over to schema 2 can be recorded.
+#[tactic(none)]
+pub fn upgrades_are_recorded()
+    ensures { UpgradeIsRecorded }
 {}

@@ -17,6 +17,6 @@ pub use begun::{
 };
 pub use called::{
     collections_are_recorded, quarantines_are_recorded, taken_replies_are_recorded,
-    writes_are_recorded,
+    upgrades_are_recorded, writes_are_recorded,
 };
 pub use sent::{replies_are_in_range, requests_are_in_range};

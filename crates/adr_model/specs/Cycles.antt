@@ -35,7 +35,7 @@ pull_asked dest source w (Some q) =
 
 -- the version of the protocol in which controllers pull
 abbrev pub pull_version : ℕ
-pull_version = 1
+pull_version = 2
 
 -- one controller asks another, which serves, and it takes the reply; an answer other than ok ends it
 abbrev pub pull : World → Name → Name → ℕ → Pulled

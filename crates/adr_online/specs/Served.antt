@@ -10,7 +10,7 @@ use Rattle.adr_controller.specs.Running.{Running}
 use Rattle.adr_outside.specs.Traffic.{Traffic, closed, hung_up}
 use Rattle.adr_session.specs.Talk.{Point, Reaches, message_limit}
 use Rattle.adr_law_controller.specs.Keeping.{Stands}
-use Rattle.adr_session.specs.Told.{FindsNear, IsAtLine, IsNear, IsTimedBehind, IsTimedNear}
+use Rattle.adr_session.specs.Told.{FindsNear, IsAtMoment, IsNear, IsTimedBehind, IsTimedNear}
 use Rattle.adr_session.specs.declared.ending.Served.{Served}
 use Rattle.adr_session.specs.declared.ending.ServeFault.{ServeFault}
 use Rattle.adr_session.specs.declared.ending.ServeFault.TheVariants as faults
@@ -73,7 +73,7 @@ AnswersAll k before p came rest (Ok s) c net clock =
 AnswersAll k before p came rest (Err stops.Disk) c net clock =
     (x : Point) × (n : ℕ) × HangsUp p came rest n x net × HasFallen k before x c × IsTimedBehind x clock
 AnswersAll k before p came rest (Err stops.Clock) c net clock =
-    (x : Point) × (n : ℕ) × HangsUp p came rest n x net × IsAtLine x × Stands k x.stands c × (clock ≡ Some x.moments)
+    (x : Point) × (n : ℕ) × HangsUp p came rest n x net × IsAtMoment x × Stands k x.stands c × (clock ≡ Some x.moments)
 AnswersAll k before p came rest (Err stops.NoMemory) c net clock =
     (x : Point) × (n : ℕ) × HangsUp p came rest n x net × IsTimedNear x clock × ((y : Point) × IsNear x y × Stands k y.stands c)
 AnswersAll k before p came rest (Err stops.Write) c net clock = ⊥
@@ -103,7 +103,7 @@ abbrev pub StopsAt : (Found State → Type 0) → (Point → Type 0) → ℕ →
 StopsAt at fallen number p stops.Link o = at p.stands × IsUnopened p o
 StopsAt at fallen number p stops.Write o = (q : Post) × Connects number p q × at q.stands × IsTelling p q o
 StopsAt at fallen number p stops.Disk o = (x : Point) × IsHungUp p x o × fallen x × IsTimedBehind x o.clock
-StopsAt at fallen number p stops.Clock o = (x : Point) × IsHungUp p x o × IsAtLine x × at x.stands × (o.clock ≡ Some x.moments)
+StopsAt at fallen number p stops.Clock o = (x : Point) × IsHungUp p x o × IsAtMoment x × at x.stands × (o.clock ≡ Some x.moments)
 StopsAt at fallen number p stops.NoMemory o =
     (at p.stands × IsAt p o)
     ⊎ (((x : Point) × (y : Point) × IsHungUp p x o × IsTimedNear x o.clock × IsNear x y × at y.stands)

@@ -1,4 +1,4 @@
-mod FirstOf
+pub mod FirstOf
 mod InLiveParts
 mod InParts
 mod Living

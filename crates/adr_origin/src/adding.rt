@@ -15,11 +15,11 @@ use crate::checks::{
 };
 use crate::new_object::{NewObject, new_rows};
 use crate::placing::{check_name_free, check_parent, check_superior};
-use crate::stamps::own_change;
+use crate::stamps::{first_stamp, next_object, own_change};
 use adr_call::{Failure, WriteRefusal};
 use adr_checks::check_name;
 use adr_state::{Change, Item, State};
-use adr_values::{Birth, LinkStamp, Oid, Stamp, Unit};
+use adr_values::Unit;
 use std::alloc::Global;
 
 /// What a client's adding an object makes of a controller at a time in seconds: the change, or why it is refused, first
@@ -102,19 +102,8 @@ fn new_item(
     ensures { let added = AddObject object.now.guid object.now.class object.now.parent object.now.text.now object.now.values.now in
         IfOk result (λ item. item ≡ rows_written state.now added now) }
 {
-    let usn = state.usn() + 1;
-    let birth = Birth {
-        inv: state.inv(),
-        usn,
-    };
-    let oid = Oid {
-        guid: object.guid,
-        birth,
-    };
-    let stamp = LinkStamp {
-        created: 0,
-        stamp: Stamp::first(now, state.inv(), usn),
-    };
+    let oid = next_object(state, object.guid);
+    let stamp = first_stamp(state, now);
     let rows = new_rows(alloc, &oid, &stamp, object)?;
     Ok(Item::new(Unit::Object(oid), rows))
 }

@@ -1,10 +1,10 @@
 //! The live object of a GUID, the rows that are written once more, with their stamps, and the change of a write.
 
-ghost use Rattle.std.specs.Prelude.{◌≡◌, ◌≢◌, ◌+◌, ◌<◌, ◌∷◌, [], IfOk};
+ghost use Rattle.std.specs.Prelude.{◌≡◌, ◌≢◌, ◌+◌, ◌<◌, ◌≤◌, ◌∷◌, [], IfOk, length};
 ghost use Rattle.std.specs.Option.{option_copied, option_map_or};
 ghost use Rattle.adr_model.specs.Store.{row_held, updates_of};
 ghost use Rattle.adr_model.specs.Update.{RowOf};
-ghost use Rattle.adr_model.specs.Write.{class_of, first_created, next_row, next_stamp, nodes_held, object_of, of_object, own_change, usn_limit, version_limit, version_of};
+ghost use Rattle.adr_model.specs.Write.{class_of, first_created, first_stamp, new_object, next_row, next_stamp, nodes_held, object_of, of_object, own_change, usn_limit, version_limit, version_of};
 ghost use Rattle.adr_update.specs.Key.{key_of};
 
 use crate::NoMemory;
@@ -37,6 +37,29 @@ pub fn class_of(state: &State, guid: Guid) -> u16
     match state.rows().node(guid) {
         Some(node) => node.class(),
         None => 0,
+    }
+}
+
+/// The object that the next write makes under a GUID.
+pub fn next_object(state: &State, guid: Guid) -> Oid
+    requires { state.now.store.usn ≤ usn_limit }
+    ensures { result ≡ new_object state.now guid }
+{
+    let birth = Birth {
+        inv: state.inv(),
+        usn: state.usn() + 1,
+    };
+    Oid { guid, birth }
+}
+
+/// The stamp of the rows of an object that the next write makes.
+pub fn first_stamp(state: &State, now: u64) -> LinkStamp
+    requires { state.now.store.usn ≤ usn_limit }
+    ensures { result ≡ first_stamp state.now now }
+{
+    LinkStamp {
+        created: 0,
+        stamp: Stamp::first(now, state.inv(), state.usn() + 1),
     }
 }
 
@@ -121,16 +144,13 @@ pub fn next_item(
     Ok(Item::new(Unit::Object(*object), rows))
 }
 
-/// The change of a write: one item under the next update sequence number.
-pub fn own_change(alloc: Global, state: &State, item: Item) -> Result<Change, NoMemory>
-    requires { state.now.store.usn < usn_limit }
-    ensures { IfOk result (λ change.
-        change ≡ own_change state.now (record { local = state.now.store.usn + 1; item = item } ∷ [])) }
+/// The change of a write: its items, each under an update sequence number of its own, from the next one on.
+pub fn change_of(alloc: Global, state: &State, writes: Vec<Written>) -> Change
+    requires { state.now.store.usn + length writes.items ≤ usn_limit }
+    ensures { result ≡ own_change state.now writes.items }
 {
-    let usn = state.usn() + 1;
-    let mut writes = Vec::new(alloc);
-    writes.push(Written::new(usn, item))?;
-    Ok(Change::new(
+    let usn = state.usn() + writes.len() as u64;
+    Change::new(
         usn,
         Mode::Normal,
         state.schema(),
@@ -140,5 +160,16 @@ pub fn own_change(alloc: Global, state: &State, item: Item) -> Result<Change, No
         Vector::new(alloc),
         Vec::new(alloc),
         writes,
-    ))
+    )
+}
+
+/// The change of a write of one item under the next update sequence number.
+pub fn own_change(alloc: Global, state: &State, item: Item) -> Result<Change, NoMemory>
+    requires { state.now.store.usn < usn_limit }
+    ensures { IfOk result (λ change.
+        change ≡ own_change state.now (record { local = state.now.store.usn + 1; item = item } ∷ [])) }
+{
+    let mut writes = Vec::new(alloc);
+    writes.push(Written::new(state.usn() + 1, item))?;
+    Ok(change_of(alloc, state, writes))
 }

@@ -11,6 +11,7 @@ mod replies;
 pub use adr_call::Outcome;
 pub use adr_cycle::Reply;
 pub use refused::{
-    adopt_refused, collect_refused, full, quarantined, serve_refused, take_refused, write_refused,
+    adopt_refused, collect_refused, full, quarantined, serve_refused, take_refused,
+    upgrade_refused, write_refused,
 };
 pub use replies::{sent, unsent};

@@ -1,11 +1,11 @@
 //! Refusals as they are answered. None wants memory.
 
 ghost use Rattle.std.specs.Prelude.{◌≡◌, ◌∷◌, [], codes};
-ghost use Rattle.adr_model.specs.Refused.{adopt_refused, attr_field, collect_refused, fault_name, field, full, id_field, number_field, quarantined, rolled_back, schema_name, schema_refused, schemas_differ, serve_refused, table_name, take_refused, write_refused};
+ghost use Rattle.adr_model.specs.Refused.{adopt_refused, attr_field, collect_refused, fault_name, field, full, id_field, number_field, quarantined, rolled_back, schema_name, schema_refused, schemas_differ, serve_refused, table_name, take_refused, upgrade_refused, write_refused};
 
 use adr_call::{
     AdoptRefusal, CollectRefusal, Field, Fields, ItemFault, Label, Outcome, Plainly, ServeRefusal,
-    Table, TakeRefusal, WriteRefusal,
+    Table, TakeRefusal, UpgradeRefusal, WriteRefusal,
 };
 use adr_values::{Guid, Mark, SchemaRefusal};
 
@@ -263,6 +263,19 @@ pub fn collect_refused(refusal: CollectRefusal) -> Outcome
     match refusal {
         CollectRefusal::Quarantined => quarantined(),
         CollectRefusal::UsnLimit => plain(21, "UsnLimit"),
+    }
+}
+
+/// A refused change-over to schema 2 as it is answered. It wants no memory, so that an answer can be made behind a change.
+pub fn upgrade_refused(refusal: UpgradeRefusal) -> Outcome
+    ensures { result ≡ upgrade_refused refusal }
+{
+    match refusal {
+        UpgradeRefusal::Quarantined => quarantined(),
+        UpgradeRefusal::SchemaThere { number } => {
+            let fields = Fields::one(number_field("number", u64::from(number)));
+            refused(52, "SchemaThere", fields)
+        }
     }
 }
 

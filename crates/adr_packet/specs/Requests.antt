@@ -1,5 +1,5 @@
--- A request as bytes.
-use Rattle.std.specs.Prelude.{◌≡◌, ℕ, ◌≤◌, List, [], ◌∷◌, ◌++◌, nat_le, Result}
+-- A request as bytes. It has the same fields in both versions.
+use Rattle.std.specs.Prelude.{◌≡◌, ℕ, ◌≤◌, true, List, [], ◌∷◌, ◌++◌, nat_le, Result}
 use Rattle.adr_values.specs.Vector.{Cursors}
 use Rattle.adr_values.specs.declared.mark.Mark.{Mark}
 use Rattle.adr_wire.specs.declared.refusal.DecodeRefusal.{DecodeRefusal}
@@ -8,7 +8,7 @@ use Rattle.adr_wire.specs.Fields.{u32_at, u32}
 use Rattle.adr_wire.specs.Ranges.{IsCursors, IsId, IsMark, IsU32}
 use Rattle.adr_wire.specs.Reading.{Reading, as_at, where_at, then_at}
 use Rattle.adr_model.specs.Serve.{Request}
-use Rattle.adr_wire.specs.Headed.{Forms, first_form, head, read_message}
+use Rattle.adr_wire.specs.Headed.{head, is_version, read_either}
 use Rattle.adr_packet.specs.Parts.{Parties, parties_at, parties}
 
 -- `ADRQ`
@@ -27,10 +27,10 @@ max_at = where_at (nat_le 1) u32_at
 unfoldable pub tuple_at : Reading Tuple
 tuple_at = then_at parties_at (λ _. then_at mark_at (λ _. then_at u32_at (λ _. then_at max_at (λ _. vector_at))))
 
-abbrev pub request_of : Tuple → Request
-request_of t =
+abbrev pub request_of : ℕ → Tuple → Request
+request_of version t =
     record {
-      version = 1;
+      version = version;
       dest = t.0.0;
       source = t.0.1.0;
       inv = t.0.1.1;
@@ -40,15 +40,12 @@ request_of t =
       vector = t.1.1.1.1;
     }
 
-unfoldable pub request_at : Reading Request
-request_at = as_at request_of tuple_at
-
-abbrev pub request_forms : Forms Request
-request_forms = first_form request_at
+unfoldable pub request_at : ℕ → Reading Request
+request_at version = as_at (request_of version) tuple_at
 
 -- what bytes say that are a request
 abbrev pub decoded_request : List ℕ → Result Request DecodeRefusal
-decoded_request bytes = read_message magic request_forms bytes
+decoded_request bytes = read_either magic request_at bytes
 
 -- ---- spelled
 
@@ -56,11 +53,11 @@ abbrev pub fields : Request → List ℕ
 fields q = parties (q.dest, (q.source, q.inv)) ++ (mark q.mark ++ (u32 q.schema ++ (u32 q.max ++ vector q.vector)))
 
 abbrev pub request_bytes : Request → List ℕ
-request_bytes q = head magic 1 ++ fields q
+request_bytes q = head magic q.version ++ fields q
 
--- a request of version 1 whose fields are in range
+-- a request of either version whose fields are in range
 pub record IsRequest (q : Request) : Type 0 where
-  pub version : q.version ≡ 1
+  pub version : is_version q.version ≡ true
   pub dest : IsId q.dest
   pub source : IsId q.source
   pub inv : IsId q.inv

@@ -25,6 +25,9 @@ request_as_bytes = (65 ∷ 68 ∷ 82 ∷ 81 ∷ 0 ∷ 1 ∷ []) ++ behind_versio
 abbrev pub of_version_two : List ℕ
 of_version_two = (65 ∷ 68 ∷ 82 ∷ 81 ∷ 0 ∷ 2 ∷ []) ++ behind_version
 
+abbrev pub of_version_three : List ℕ
+of_version_three = (65 ∷ 68 ∷ 82 ∷ 81 ∷ 0 ∷ 3 ∷ []) ++ behind_version
+
 abbrev pub a_refusal : Refusal
 a_refusal = Serve (SchemaMismatch 1 2)
 

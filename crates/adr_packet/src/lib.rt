@@ -1,8 +1,8 @@
 //! Messages between controllers as bytes: requests, replies, and refusals of requests.
 //!
-//! Each is read and written in one way, behind its magic and its version. It stands on the fields and composites of
-//! `adr_wire`, on the items of `adr_image`, and on the requests and replies of `adr_cycle`. It knows nothing of
-//! connections, of frames, or of what is asked and answered.
+//! Each is read and written in one way, behind its magic and its version: requests and replies in two versions, refusals
+//! in one. It stands on the fields and composites of `adr_wire`, on the items of `adr_image`, and on the requests and
+//! replies of `adr_cycle`. It knows nothing of connections, of frames, or of what is asked and answered.
 #![tactic(auto)]
 
 mod items;

@@ -1,14 +1,14 @@
 //! What requests and replies are made of.
 
 ghost use Rattle.std.specs.Prelude.{◌≡◌, ◌++◌, OnOk};
-ghost use Rattle.std.specs.Option.{option_copied};
-ghost use Rattle.adr_wire.specs.Composites.{vector_at, vector};
+ghost use Rattle.std.specs.Option.{option_copied, option_map};
 ghost use Rattle.adr_wire.specs.Optional.{if_there, if_there_at};
 ghost use Rattle.adr_wire.specs.Reading.{Gives, Tells};
+ghost use Rattle.adr_wire.specs.Timed.{timed, timed_at};
 ghost use Rattle.adr_packet.specs.Parts as parts;
 
 use adr_cycle::{Mark, NoMemory, Vector};
-use adr_values::Guid;
+use adr_values::{Guid, Times};
 use adr_wire::{Reader, WireRefusal, Writer};
 use std::alloc::Global;
 
@@ -53,26 +53,36 @@ pub fn write_reach(writer: &mut Writer, from: Mark, to: Mark) -> Result<(), NoMe
     writer.write_mark(&to)
 }
 
-/// The vector of a last reply.
+/// The vector of a last reply, and its times.
 #[tactic(auto, unfolding(adr_wire::specs::Optional::if_there_at))]
-pub fn read_last(reader: &mut Reader<'_>, alloc: Global) -> Result<Option<Vector>, WireRefusal>
-    ensures { Gives result reader.new (if_there_at vector_at reader.old) }
+pub fn read_last(
+    reader: &mut Reader<'_>,
+    alloc: Global,
+    version: u16,
+) -> Result<Option<(Vector, Times)>, WireRefusal>
+    ensures { Gives result reader.new (if_there_at (timed_at version) reader.old) }
 {
     if !reader.read_flag()? {
         return Ok(None);
     }
-    let last = reader.read_vector(alloc)?;
-    Ok(Some(last))
+    let told = reader.read_timed(alloc, version)?;
+    Ok(Some(told))
 }
 
-pub fn write_last(writer: &mut Writer, last: Option<&Vector>) -> Result<(), NoMemory>
-    ensures { OnOk result (writer.new ≡ writer.old ++ if_there vector (option_copied last.entry)) }
+pub fn write_last(
+    writer: &mut Writer,
+    version: u16,
+    last: Option<&Vector>,
+    times: &Times,
+) -> Result<(), NoMemory>
+    ensures { OnOk result (writer.new
+        ≡ writer.old ++ if_there (timed version) (option_map (λ v. (v, times.now)) (option_copied last.entry))) }
 {
     match last {
         None => writer.write_flag(&false),
-        Some(last) => {
+        Some(vector) => {
             writer.write_flag(&true)?;
-            writer.write_vector(last)
+            writer.write_timed(version, vector, times)
         }
     }
 }

@@ -8,15 +8,12 @@ ghost use Rattle.adr_packet.specs.Requests as form;
 use crate::parts::{read_parties, write_parties};
 use adr_cycle::{NoMemory, Request};
 use adr_wire::{
-    DecodeRefusal, Failure, Malformed, Reader, WireRefusal, Writer, malformed, open_message,
+    DecodeRefusal, Failure, Malformed, Reader, WireRefusal, Writer, malformed, open_known,
 };
 use std::alloc::Global;
 
 /// The bytes with which a request begins.
 const MAGIC: [u8; 4] = [65, 68, 82, 81];
-
-/// The version of the requests that are read and written.
-const VERSION: u16 = 1;
 
 /// How many items a reply has at most.
 fn read_max(reader: &mut Reader<'_>) -> Result<u32, WireRefusal>
@@ -32,33 +29,33 @@ fn read_max(reader: &mut Reader<'_>) -> Result<u32, WireRefusal>
 
 /// What stands behind the version of a request.
 #[tactic(auto, unfolding(crate::specs::Requests::request_at, crate::specs::Requests::tuple_at))]
-fn read_fields(reader: &mut Reader<'_>, alloc: Global) -> Result<Request, WireRefusal>
-    ensures { Gives result reader.new (form.request_at reader.old) }
+fn read_fields(reader: &mut Reader<'_>, alloc: Global, version: u16) -> Result<Request, WireRefusal>
+    ensures { Gives result reader.new (form.request_at version reader.old) }
 {
     let (dest, (source, inv)) = read_parties(reader)?;
     let mark = reader.read_mark()?;
     let schema = reader.read_u32()?;
     let max = read_max(reader)?;
     let vector = reader.read_vector(alloc)?;
-    Ok(Request::new(dest, source, inv, mark, schema, max, vector))
+    Ok(Request::new(version, dest, source, inv, mark, schema, max, vector))
 }
 
 /// What stands behind the version, to the end.
-fn read_to_end(reader: &mut Reader<'_>, alloc: Global) -> Result<Request, WireRefusal>
-    ensures { Ends result (form.request_at reader.old) }
+fn read_to_end(reader: &mut Reader<'_>, alloc: Global, version: u16) -> Result<Request, WireRefusal>
+    ensures { Ends result (form.request_at version reader.old) }
 {
-    let request = read_fields(reader, alloc)?;
+    let request = read_fields(reader, alloc, version)?;
     reader.end()?;
     Ok(request)
 }
 
-/// Reads a request. `Malformed` names the first byte of the field that breaks its form.
+/// Reads a request of either version. `Malformed` names the first byte of the field that breaks its form.
 pub fn decode_request(alloc: Global, bytes: &[u8]) -> Result<Request, Failure<DecodeRefusal>>
     ensures read { IfOk result (λ request. form.decoded_request bytes.now ≡ Ok request) }
     ensures refused { IfErr result (IsRefusedSo (form.decoded_request bytes.now)) }
 {
-    let mut reader = open_message(bytes, &MAGIC, VERSION)?;
-    match read_to_end(&mut reader, alloc) {
+    let (version, mut reader) = open_known(bytes, &MAGIC)?;
+    match read_to_end(&mut reader, alloc, version) {
         Ok(request) => Ok(request),
         Err(refusal) => Err(malformed(refusal)),
     }
@@ -75,12 +72,12 @@ fn write_fields(writer: &mut Writer, request: &Request) -> Result<(), NoMemory>
     writer.write_vector(request.vector())
 }
 
-/// The bytes of a request.
+/// The bytes of a request, in its version.
 pub fn encode_request(alloc: Global, request: &Request) -> Result<Vec<u8>, NoMemory>
     ensures { IfOk result (λ bytes. bytes.items ≡ form.request_bytes request.now) }
 {
     let mut writer = Writer::new(alloc);
-    writer.write_head(&MAGIC, &VERSION)?;
+    writer.write_head(&MAGIC, &request.version())?;
     write_fields(&mut writer, request)?;
     Ok(writer.into_bytes())
 }

@@ -11,6 +11,7 @@ use Rattle.adr_call.specs.declared.refusal.Table.TheVariants.{Log}
 use Rattle.adr_model.specs.Update.{Identifier}
 use Rattle.adr_model.specs.Change.{Change}
 use Rattle.adr_model.specs.Collect.{quarantine}
+use Rattle.adr_model.specs.Cycles.{pull_version}
 use Rattle.adr_model.specs.Lengths.{change_fits, log_limit}
 use Rattle.adr_model.specs.Refused.{full, serve_refused, take_refused}
 use Rattle.adr_model.specs.Serve.{Reply, ask}
@@ -66,7 +67,7 @@ item_limit = 1000
 
 -- a request to a partner: a frame of kind 1
 abbrev pub request : State → Identifier → List ℕ
-request s partner = 1 ∷ request_bytes (ask s partner item_limit 1)
+request s partner = 1 ∷ request_bytes (ask s partner item_limit pull_version)
 
 -- ---- what it makes of a node
 

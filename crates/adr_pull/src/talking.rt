@@ -19,6 +19,9 @@ use std::alloc::Global;
 /// The most items of a reply.
 const ITEM_LIMIT: u32 = 1000;
 
+/// The version of the protocol in which a node pulls. It takes replies of both.
+const PULL_VERSION: u16 = 2;
+
 /// Sends a message as a frame, and hears the one that is due.
 fn converse<N: Net>(alloc: Global, net: &mut N, message: &[u8]) -> Result<Vec<u8>, PullFault>
     ensures converses { IfSome (N.traffic net.old) (λ t.
@@ -60,7 +63,7 @@ fn request<K: Keeper>(
         → IfOk result (λ message. message.items ≡ request s partner) }
     ensures refused { IfErr result (λ fault. fault ≡ PullFault.NoMemory) }
 {
-    let Ok(request) = controller.ask(alloc, partner, ITEM_LIMIT) else {
+    let Ok(request) = controller.ask(alloc, partner, ITEM_LIMIT, PULL_VERSION) else {
         return Err(PullFault::NoMemory);
     };
     let bytes = encode_request(alloc, &request)?;

@@ -8,10 +8,12 @@ ghost use Rattle.adr_model.specs.Formed.{IsFormedStore};
 ghost use Rattle.adr_model.specs.Store.{Normal};
 ghost use Rattle.adr_image.specs.Stored.{IsSpelled, image};
 ghost use Rattle.adr_records.specs.Logged.{IsLogged};
+ghost use Rattle.adr_revival.specs.Archived.{IsArchive};
 
 use adr_call::{AdoptRefusal, Failure};
 use adr_image::{Dormant, decode};
-use adr_records::{adopt, image_of};
+use adr_records::{adopt, image_of, rows_of};
+use adr_revival::Archive;
 use adr_state::State;
 use adr_values::{Guid, NoMemory};
 use std::alloc::{AllocError, Global};
@@ -72,6 +74,15 @@ impl Image {
     {
         let dormant = self.read(alloc)?;
         adopt(alloc, dormant.into_contents(), dsa, inv)
+    }
+
+    /// What of it may be revived: its rows, and the number of its schema.
+    pub fn archive(&self, alloc: Global) -> Result<Archive, NoMemory>
+        ensures { IfOk result (λ archive. IsArchive self.now archive) }
+    {
+        let contents = self.read(alloc)?.into_contents();
+        let schema = contents.schema;
+        Ok(Archive::of(schema, rows_of(alloc, contents)?))
     }
 
     /// What it says.

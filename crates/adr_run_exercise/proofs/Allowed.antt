@@ -120,10 +120,10 @@ pub restore_allowed : (name image : List ℕ) (inv : ℕ) → is_name name ≡ t
 unfolding tokens_behind
 restore_allowed name image inv is was = (tt, (word_spelled _, (name_spelled name is, (name_spelled image was, (identifier_spelled inv, tt)))))
 
-pub ask_allowed : (name partner bound : List ℕ) → is_name name ≡ true → is_name partner ≡ true → is_name bound ≡ true → IsAllowed (kinds.Ask name partner 3 1 bound)
+pub ask_allowed : (name partner bound : List ℕ) → is_name name ≡ true → is_name partner ≡ true → is_name bound ≡ true → IsAllowed (kinds.Ask name partner 3 2 bound)
 unfolding tokens_behind
 ask_allowed name partner bound is of new =
-    (((omega arith, omega arith), refl), (word_spelled _, (name_spelled name is, (name_spelled partner of, (number_spelled 3 (omega arith), (word_spelled _, (name_spelled bound new, tt)))))))
+    (((omega arith, omega arith), inr refl), (word_spelled _, (name_spelled name is, (name_spelled partner of, (number_spelled 3 (omega arith), (word_spelled _, (name_spelled bound new, tt)))))))
 
 pub serve_allowed : (name request bound : List ℕ) → is_name name ≡ true → is_name request ≡ true → is_name bound ≡ true → IsAllowed (kinds.Serve name request bound)
 unfolding tokens_behind

@@ -9,7 +9,6 @@ use Rattle.std.specs.Str.{bytes_eq}
 use Rattle.std.proofs.lemmas.Bool.{false_from_ne_true, eqb-true, eqb-false}
 use Rattle.std.proofs.lemmas.Slice.Eq.{bytes_eq-Decides}
 use Rattle.adr_values.specs.First.{first_of}
-use Rattle.adr_call.specs.Supported.{IsSupported}
 use Rattle.adr_call.specs.declared.event.Event.{Event}
 use Rattle.adr_call.specs.declared.call.Call.TheVariants as calls
 use Rattle.adr_call.specs.declared.event.Event.TheVariants as kinds
@@ -18,10 +17,9 @@ use Rattle.adr_schedule.specs.declared.fault.Cause.{Cause}
 use Rattle.adr_schedule.specs.declared.fault.Cause.TheVariants.{IdentifierUsed}
 use Rattle.adr_schedule.specs.Grammar.{IsAllowed}
 use Rattle.adr_schedule.specs.Seen.{Seen, nothing_seen, is_bound, if_bound, unless_bound, if_inv_given, cause_after, seen_after, IsFollowing}
-use Rattle.adr_schedule.proofs.AllowedLaws.{lined_supported}
 use Rattle.adr_token.specs.Words.{is_name}
 use Rattle.adr_run_exercise.specs.Generated.{controller, identifier, numbered, person, round, rounds, beginning, group_added, groups, backed_up, restored, person_added, person_linked, lost, exchanged, met, exchange, state, person_lines, persons, person_deleted, deletions, collections, schedule}
-use Rattle.adr_run_exercise.specs.Laws.{GeneratedAreSupported, SchedulesFollow}
+use Rattle.adr_run_exercise.specs.Laws.{SchedulesFollow}
 use Rattle.adr_run_exercise.proofs.Numerals.{IsSmall, decimal_apart}
 use Rattle.adr_run_exercise.proofs.Allowed.{controller_named, request_named, reply_named, time_allowed, controller_allowed, cycle_allowed, pull_allowed, collect_allowed, backup_allowed, restore_allowed, ask_allowed, serve_allowed, delete_allowed, group_allowed, person_allowed, link_allowed}
 
@@ -360,10 +358,10 @@ lost_goes n k p q seen small s = ((may_ask, asking, (may_serve, serving, tt)), a
     asked : unless_bound (seen.requests ++ numbered (codes "q") k ∷ []) (numbered (codes "q") k) ≡ None
     asked = rw (bound_last seen.requests (numbered (codes "q") k)) refl
 
-    may_ask : cause_after seen (kinds.Ask (controller p) (controller q) 3 1 (numbered (codes "q") k)) ≡ None
+    may_ask : cause_after seen (kinds.Ask (controller p) (controller q) 3 2 (numbered (codes "q") k)) ≡ None
     may_ask = three_none _ _ _ (bound_among seen (controller p) s.controllers (one_of p)) (bound_among seen (controller q) s.controllers (one_of q)) new_request
 
-    asking : IsAllowed (kinds.Ask (controller p) (controller q) 3 1 (numbered (codes "q") k))
+    asking : IsAllowed (kinds.Ask (controller p) (controller q) 3 2 (numbered (codes "q") k))
     asking = ask_allowed (controller p) (controller q) (numbered (codes "q") k) (controller_named p) (controller_named q) (request_named k small)
 
     may_serve : cause_after (record seen { requests = seen.requests ++ numbered (codes "q") k ∷ [] }) (kinds.Serve (controller q) (numbered (codes "q") k) (numbered (codes "r") k)) ≡ None
@@ -508,10 +506,3 @@ schedule_parts n =
 
 pub schedules_follow : SchedulesFollow
 schedules_follow n few = subst (IsFollowing nothing_seen) (sym (schedule_parts n)) (goes_then (Stands n 0 0 0) HasFour beginning (from_groups n) nothing_seen (beginning_goes n) (groups_follow n few)).0
-
-following_supported : (es : List Event) (seen : Seen) → IsFollowing seen es → All IsSupported es
-following_supported [] seen follow = All-nil IsSupported
-following_supported (e ∷ es) seen follow = All-cons IsSupported e es (lined_supported e follow.1.0) (following_supported es (seen_after seen e) follow.2)
-
-pub schedules_supported : GeneratedAreSupported
-schedules_supported n few = following_supported (schedule n) nothing_seen (schedules_follow n few)

@@ -107,7 +107,7 @@ person_linked k = Calls (controller (k % 4)) (Write (Link (group (k % 10)) membe
 -- one controller pulls from another, or it asks, is answered, and the reply is lost
 unfoldable pub lost : ℕ → ℕ → ℕ → List Event
 lost k p q =
-    Ask (controller p) (controller q) 3 1 (numbered (codes "q") k)
+    Ask (controller p) (controller q) 3 2 (numbered (codes "q") k)
     ∷ Serve (controller q) (numbered (codes "q") k) (numbered (codes "r") k)
     ∷ []
 

@@ -1,6 +1,5 @@
 -- What is claimed of the schedule of every number: its lines are allowed and may follow one another, and so may be printed, read and run.
 use Rattle.std.specs.Prelude.{◌≡◌, ◌<◌, ◌≤◌, ◌^◌, ℕ, length, All, Ok}
-use Rattle.adr_call.specs.Supported.{IsSupported}
 use Rattle.adr_schedule.specs.Limits.{text_limit}
 use Rattle.adr_schedule.specs.Seen.{nothing_seen, IsFollowing}
 use Rattle.adr_schedule.specs.Events.{events_of}
@@ -14,7 +13,3 @@ SchedulesFollow = (n : ℕ) → n < 2 ^ 64 → IsFollowing nothing_seen (schedul
 -- what is printed of the schedule is read as the schedule, where it isn't too long
 abbrev pub GeneratedAreRead : Type 0
 GeneratedAreRead = (n : ℕ) → n < 2 ^ 64 → length (printed (schedule n)) ≤ text_limit → events_of (printed (schedule n)) ≡ Ok (schedule n)
-
--- the program does all that the schedule says
-abbrev pub GeneratedAreSupported : Type 0
-GeneratedAreSupported = (n : ℕ) → n < 2 ^ 64 → All IsSupported (schedule n)

@@ -1,7 +1,6 @@
 //! The events of the schedule.
 
 ghost use Rattle.std.specs.Prelude.{◌≡◌, ◌++◌, IfOk, OnOk, All};
-ghost use Rattle.adr_call.specs.Supported.{IsSupported};
 ghost use Rattle.adr_schedule.specs.Seen.{nothing_seen, IsFollowing};
 ghost use Rattle.adr_run_exercise.specs.Generated.{beginning, collections, deletions, groups, persons, rounds, schedule};
 
@@ -46,7 +45,6 @@ fn generated(alloc: Global, n: u64) -> Result<Vec<Event>, NoMemory>
 pub fn generate(alloc: Global, n: u64) -> Result<Vec<Event>, NoMemory>
     ensures schedule { IfOk result (λ events. events.items ≡ schedule n) }
     ensures follows { IfOk result (λ events. IsFollowing nothing_seen events.items) }
-    ensures supported { IfOk result (λ events. All IsSupported events.items) }
 {
     let events = generated(alloc, n)?;
     Ok(events)

@@ -1,6 +1,6 @@
 //! The laws of the schedule.
 
-ghost use Rattle.adr_run_exercise.specs.Laws.{GeneratedAreRead, GeneratedAreSupported, SchedulesFollow};
+ghost use Rattle.adr_run_exercise.specs.Laws.{GeneratedAreRead, SchedulesFollow};
 
 use adr_run_print::events_are_read_again;
 
@@ -16,9 +16,3 @@ pub fn schedules_are_read()
 {
     events_are_read_again();
 }
-
-/// The program does all that the schedule says.
-#[tactic(auto, using(crate::proofs::Followed::schedules_supported))]
-pub fn schedules_are_supported()
-    ensures { GeneratedAreSupported }
-{}

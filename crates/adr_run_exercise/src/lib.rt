@@ -12,4 +12,4 @@ mod persons;
 mod words;
 
 pub use generating::generate;
-pub use laws::{schedules_are_read, schedules_are_supported, schedules_follow};
+pub use laws::{schedules_are_read, schedules_follow};

@@ -111,7 +111,7 @@ fn push_asked(
     p: u64,
     q: u64,
 ) -> Result<(), NoMemory>
-    ensures { OnOk result (events.new.items ≡ events.old.items ++ kinds.Ask (controller p) (controller q) 3 1 (numbered (codes "q") k) ∷ []) }
+    ensures { OnOk result (events.new.items ≡ events.old.items ++ kinds.Ask (controller p) (controller q) 3 2 (numbered (codes "q") k) ∷ []) }
 {
     let name = controller(alloc, p)?;
     let partner = controller(alloc, q)?;
@@ -122,7 +122,7 @@ fn push_asked(
             name,
             partner,
             max: 3,
-            version: 1,
+            version: 2,
             bound,
         },
     )

@@ -1,6 +1,6 @@
 -- Events that may follow one another are those of their printed form.
 use Rattle.std.proofs.Common.{◌≡◌, ℕ, ◌+◌, ◌<◌, Bool, true, false, not, ◌&&◌, List, [], ◌∷◌, ◌++◌, map, length, Some, None, Ok, refl, sym, ap, ◌∙◌, inl, arith}
-use Rattle.std.specs.Prelude.{nat_lt, codes}
+use Rattle.std.specs.Prelude.{◌==◌, if◌then◌else◌, nat_lt, codes}
 use Rattle.std.specs.List.{list_all}
 use Rattle.std.specs.List.Sorted.{IsStrictlySortedBy}
 use Rattle.std.specs.Str.{is_utf8}
@@ -14,7 +14,7 @@ use Rattle.adr_call.specs.declared.report.Report.{Report as Asked}
 use Rattle.adr_call.specs.declared.report.Report.TheVariants.{Meta}
 use Rattle.adr_call.specs.declared.event.Event.{Event}
 use Rattle.adr_call.specs.declared.call.Call.TheVariants.{Write}
-use Rattle.adr_call.specs.declared.event.Event.TheVariants.{Calls, Ring, StopAfter, Report}
+use Rattle.adr_call.specs.declared.event.Event.TheVariants.{Calls, Ask, Ring, StopAfter, Report}
 use Rattle.adr_call.specs.Verbs.{verb_of, word_of}
 use Rattle.adr_call.specs.declared.verb.Verb.{Verb}
 use Rattle.adr_token.specs.Words.{unspaced}
@@ -109,11 +109,17 @@ asked_seen : (what : Asked) → list_all is_seen (tokens_asked what) ≡ true
 asked_seen (Meta guid) = refl
 asked_seen what = refl
 
+-- the word of a version
+version_seen : (first : Bool) → list_all is_seen (if first then Word (codes "v1") ∷ [] else []) ≡ true
+version_seen true = refl
+version_seen false = refl
+
 -- so are the words of an event
 behind_seen : (order : List Given) (e : Event) → list_all is_seen (tokens_behind order e) ≡ true
 unfolding tokens_behind
 behind_seen order (Calls name (Write (Add guid class parent text values))) = sets_seen order
 behind_seen order (Calls name (Write (Modify guid values))) = sets_seen order
+behind_seen order (Ask name partner max version bound) = version_seen (version == 1)
 behind_seen order (Ring name others rounds max) = names_seen others
 behind_seen order (StopAfter name calls Kept) = refl
 behind_seen order (StopAfter name calls Lost) = refl

@@ -3,7 +3,7 @@
 ghost use Rattle.std.specs.Prelude.{◌≡◌, ◌++◌, ◌∷◌, [], IfOk, OnOk, codes, map};
 ghost use Rattle.adr_token.specs.Spelling.{set_token};
 ghost use Rattle.adr_schedule.specs.Crashes.{crash_word};
-ghost use Rattle.adr_schedule.specs.Grammar.{Attribute as attributed, Class as classed, Identifier as identified, Name as named, Number as numbered, Quoted as quoted, Word as said, given_by, given_for, given_in, named as names_of, sets, tokens_asked, tokens_behind, tokens_called, tokens_written};
+ghost use Rattle.adr_schedule.specs.Grammar.{Attribute as attributed, Class as classed, Identifier as identified, Name as named, Number as numbered, Quoted as quoted, Word as said, given_by, given_for, given_in, named as names_of, sets, tokens_asked, tokens_behind, tokens_called, tokens_written, version_words};
 ghost use Rattle.adr_run_print.specs.Printed.{line_of, printed, set_tokens, spaced, token_of, token_text};
 
 use Token::{Attribute, Class, Identifier, Name, Number, Quoted, Word};
@@ -232,18 +232,39 @@ fn push_linked(
     )
 }
 
-/// NAME NAME MAX as NAME, of `ask`.
+/// `v1` behind a space, where a request is of the first version.
+fn push_version(out: &mut Vec<u8>, version: u16) -> Result<(), NoMemory>
+    ensures { OnOk result (out.new.items ≡ out.old.items ++ spaced (map token_text (version_words version))) }
+{
+    if version == 1 {
+        return push_tokens(out, &[Word(b"v1")]);
+    }
+    Ok(())
+}
+
+/// Adds tokens and the word of a version, each behind a space.
+fn push_with_version(out: &mut Vec<u8>, tokens: &[Token<'_>], version: u16) -> Result<(), NoMemory>
+    ensures { OnOk result (out.new.items
+        ≡ out.old.items
+        ++ (spaced (map (λ token. token_text (token_of token)) tokens.now) ++ spaced (map token_text (version_words version)))) }
+{
+    push_tokens(out, tokens)?;
+    push_version(out, version)
+}
+
+/// NAME NAME MAX as NAME, and the version, of `ask`.
 fn push_asked<'a>(
     out: &mut Vec<u8>,
     name: &'a Text,
     partner: &'a Text,
     max: u32,
+    version: u16,
     bound: &'a Text,
 ) -> Result<(), NoMemory>
     ensures { OnOk result (out.new.items
-        ≡ out.old.items ++ spaced (map token_text (named name.now ∷ named partner.now ∷ numbered max ∷ said (codes "as") ∷ named bound.now ∷ []))) }
+        ≡ out.old.items ++ spaced (map token_text (named name.now ∷ named partner.now ∷ numbered max ∷ said (codes "as") ∷ named bound.now ∷ version_words version))) }
 {
-    push_tokens(
+    push_with_version(
         out,
         &[
             Name(name),
@@ -252,6 +273,7 @@ fn push_asked<'a>(
             Word(b"as"),
             Name(bound),
         ],
+        version,
     )
 }
 
@@ -316,6 +338,30 @@ fn push_restored<'a>(
         ≡ out.old.items ++ spaced (map token_text (named name.now ∷ named image.now ∷ identified inv ∷ []))) }
 {
     push_tokens(out, &[Name(name), Name(image), Identifier(inv)])
+}
+
+/// NAME ID NAME ID TEXT, of `revive`.
+fn push_revived<'a>(
+    out: &mut Vec<u8>,
+    name: &'a Text,
+    guid: Guid,
+    image: &'a Text,
+    parent: Guid,
+    text: &'a Text,
+) -> Result<(), NoMemory>
+    ensures { OnOk result (out.new.items
+        ≡ out.old.items ++ spaced (map token_text (named name.now ∷ identified guid ∷ named image.now ∷ identified parent ∷ quoted text.now ∷ []))) }
+{
+    push_tokens(
+        out,
+        &[
+            Name(name),
+            Identifier(guid),
+            Name(image),
+            Identifier(parent),
+            Quoted(text),
+        ],
+    )
 }
 
 /// NAME ID NAME ID, of `install`.
@@ -419,9 +465,9 @@ fn push_behind(out: &mut Vec<u8>, event: &Event) -> Result<(), NoMemory>
             name,
             partner,
             max,
+            version,
             bound,
-            ..
-        } => push_asked(out, name, partner, *max, bound),
+        } => push_asked(out, name, partner, *max, *version, bound),
         Event::Serve {
             name,
             request,
@@ -437,7 +483,13 @@ fn push_behind(out: &mut Vec<u8>, event: &Event) -> Result<(), NoMemory>
             rounds,
             max,
         } => push_ring(out, name, others.items(), *rounds, *max),
-        Event::Revive { .. } => Ok(()),
+        Event::Revive {
+            name,
+            guid,
+            image,
+            parent,
+            text,
+        } => push_revived(out, name, *guid, image, *parent, text),
         Event::Backup { name, bound } | Event::Snapshot { name, bound } => {
             push_copied(out, name, bound)
         }

@@ -2,7 +2,6 @@
 
 ghost use Rattle.std.specs.Prelude.{◌≡◌, ◌⊎◌, ◌<◌, ◌≤◌, ◌++◌, All, IfOk, OnOk, codes, length, sum_by};
 ghost use Rattle.std.specs.Fmt.{decimal};
-ghost use Rattle.adr_call.specs.Supported.{IsSupported};
 ghost use Rattle.adr_law_recorded.specs.Typed.{AreTyped};
 ghost use Rattle.adr_model.specs.Convergence.{MayAllHappen};
 ghost use Rattle.adr_model.specs.Rings.{show_alike};
@@ -88,7 +87,6 @@ fn count_all(
 ) -> Result<(), NoMemory>
     requires may { MayAllHappen world.old events.now }
     requires typed { AreTyped events.now }
-    requires supported { All IsSupported events.now }
     ensures stands { OnOk result (world.new ≡ after_lines world.old events.now) }
     ensures counted { OnOk result (tally.new ≡ counted tally.old (answers world.old events.now)) }
 {

@@ -1,33 +1,31 @@
 -- What each call of a controller is answered, by how it ended.
 use Rattle.std.proofs.Common.{◌≡◌, ◌∙◌, refl, sym, ap, ℕ, Bool, Option, Some, None, Result, Ok, Err, length, is_some}
 use Rattle.std.specs.Prelude.{IfOk, IfSome, OnErr}
-use Rattle.adr_call.specs.declared.call.Call.{Call as Asked}
 use Rattle.adr_call.specs.declared.outcome.Outcome.{Outcome}
 use Rattle.adr_call.specs.declared.outcome.Outcome.TheVariants as outcomes
 use Rattle.adr_call.specs.declared.refusal.ServeRefusal.{ServeRefusal}
 use Rattle.adr_call.specs.declared.refusal.TakeRefusal.{TakeRefusal}
 use Rattle.adr_model.specs.Store.{State}
 use Rattle.adr_model.specs.Change.{Change}
-use Rattle.adr_model.specs.Client.{call_meant, done}
+use Rattle.adr_model.specs.Client.{done}
 use Rattle.adr_model.specs.Refused.{serve_refused, take_refused}
 use Rattle.adr_model.specs.Replica.{Call, Replica, Pending}
 use Rattle.adr_model.specs.Serve.{Request, Reply, serve}
 use Rattle.adr_model.specs.Take.{take}
-use Rattle.adr_model.specs.World.{World, Sent, after_call, after_serve, after_take, stays, nothing, rows_in, noted, where_up}
+use Rattle.adr_model.specs.World.{World, Sent, after_call, after_serve, after_take, stays, nothing, rows_in, where_up}
 use Rattle.adr_controller.specs.Ended.{call_hindrance}
 use Rattle.adr_controller.specs.declared.messages.Taken.{Taken}
 use Rattle.adr_controller.specs.declared.refusal.CallRefusal.{CallRefusal}
 use Rattle.adr_controller.specs.declared.refusal.CallRefusal.TheVariants.{Refused}
 use Rattle.adr_controller.specs.declared.refusal.Hindrance.{Hindrance}
-use Rattle.adr_run_replica.specs.Past.{Past}
+use Rattle.adr_run_replica.specs.Past.{Past, noting}
 use Rattle.adr_run_replica.specs.Pending.{calling, served_by, serving, taking}
 use Rattle.adr_run_replica.specs.Settled.{hindered_so}
-use Rattle.adr_run_replica.specs.Led.{StandsIn, world_with, IsUndone, Leads, LeadsTo}
+use Rattle.adr_run_replica.specs.Led.{StandsIn, world_with, IsUndone, Leads, LeadsAt}
 use Rattle.adr_run_replica.proofs.Came.{Came, gone_so, sent_so}
-use Rattle.adr_run_replica.proofs.Noted.{answer_unnoted, served_at}
 use Rattle.adr_run_replica.proofs.Ending.{EndsTold, EndsSent, if_told, unless_told, if_sent, sent_holds, unless_sent}
 use Rattle.adr_run_replica.proofs.Results.{if_ok_is}
-use Rattle.adr_run_replica.proofs.Answered.{call_makes, take_told, take_makes, serve_told, serve_sent, serve_makes, gone_made, sent_made}
+use Rattle.adr_run_replica.proofs.Answered.{IsDoneSo, call_makes, take_told, take_makes, serve_told, serve_sent, serve_makes, gone_made, sent_made, served_at}
 
 module _ (is_held : Type 0) (v q : Replica) (past later : Past) (state : Option State) (stopped : Bool) (how : Option Hindrance) where
   module _ {M R E : Type 0} {made : Result M (CallRefusal R)} {r : Result Outcome E} {d : Bool} {ok : M → Outcome} {no : R → Outcome} {po : Option Pending}
@@ -48,30 +46,27 @@ module _ (is_held : Type 0) (v q : Replica) (past later : Past) (state : Option 
 
   -- ---- what a client calls for
 
-  module _ (what : Asked) (now : ℕ) (came : Came is_held v q past later (calling (call_meant what now) v.safe) state stopped how) where
-    abbrev call : Call
-    call = call_meant what now
-
+  module _ (call : Call) (so : IsDoneSo v.safe call) (came : Came is_held v q past later (calling call v.safe) state stopped how) where
     abbrev CalledAs : Outcome → Type 0
     CalledAs told = Leads v past (λ w. where_up (stays w) v.standing (after_call w v call (done v.safe call))) q later told
 
     call_made_as : how ≡ None → (told : Outcome) → (done v.safe call).0 ≡ told → CalledAs told
     call_made_as none told tells w stands =
         gone_made is_held v q past later (calling call v.safe) state stopped how came none w (after_call w v call (done v.safe call)) (done v.safe call).0 stands
-        (call_makes w v what now) ∙ ap (λ t. (world_with w q later, t)) tells
+        (call_makes w v call so) ∙ ap (λ t. (world_with w q later, t)) tells
 
     hindered_call : (h : Hindrance) → how ≡ Some h → (told : Outcome) → hindered_so h stopped ≡ Some told → CalledAs told
     hindered_call h is told tells w stands =
         gone_so w v q past later (calling call v.safe) told (after_call w v call (done v.safe call)) (came.hinders h is told tells) stands
-        (λ p up ofp. ((done v.safe call).0, (call_makes w v what now).1 p ofp))
+        (λ p up ofp. ((done v.safe call).0, (call_makes w v call so).1 p ofp))
 
-    pub ok_called : {E : Type 0} {made : Result Outcome (CallRefusal Outcome)} {r : Result Outcome E} {d : Bool} → how ≡ call_hindrance made → d ≡ stopped
-        → EndsTold made r d (λ told. told) (λ told. told) → IfOk made (λ told. (s : State) → state ≡ Some s → told ≡ (done s call).0)
-        → ((s : State) (told : Outcome) → state ≡ Some s → made ≡ Err (Refused told) → told ≡ (done s call).0) → IfOk r CalledAs
+    pub ok_called : {M R E : Type 0} {made : Result M (CallRefusal R)} {r : Result Outcome E} {d : Bool} {ok : M → Outcome} {no : R → Outcome} → how ≡ call_hindrance made → d ≡ stopped
+        → EndsTold made r d ok no → IfOk made (λ x. (s : State) → state ≡ Some s → ok x ≡ (done s call).0)
+        → ((s : State) (refusal : R) → state ≡ Some s → made ≡ Err (Refused refusal) → no refusal ≡ (done s call).0) → IfOk r CalledAs
     ok_called {made = made} says same ends makes refuses =
         answered came says ends CalledAs (done v.safe call).0 call_made_as hindered_call same
-        (λ told is there. sym (if_ok_is _ made told is makes v.safe there))
-        (λ told is there. sym (refuses v.safe told there is))
+        (λ x is there. sym (if_ok_is _ made x is makes v.safe there))
+        (λ refusal is there. sym (refuses v.safe refusal there is))
 
   -- ---- a reply
 
@@ -101,64 +96,67 @@ module _ (is_held : Type 0) (v q : Replica) (past later : Past) (state : Option 
 
   -- ---- a request
 
-  module _ (request : Request) (first : request.version ≡ 1) (came : Came is_held v q past later (serving request v.safe) state stopped how) where
+  module _ (request : Request) (now : ℕ) (came : Came is_held v q past later (serving request v.safe) state stopped how) where
     abbrev ServedAs : Outcome → Option Reply → Type 0
-    ServedAs told sent = LeadsTo v past (λ w. where_up (nothing w) v.standing (after_serve w v (serve v.safe request w.time))) q later told sent
-
-    keeps : (w : World) (reply : Reply) → serve v.safe request w.time ≡ Ok reply → noted w reply ≡ w
-    keeps w reply = answer_unnoted v.safe request first w reply
+    ServedAs told sent = LeadsAt now v past (λ w. where_up (nothing w) v.standing (after_serve w v (serve v.safe request w.time))) q (noting later now sent) told sent
 
     serving_then : (w : World) → serving request v.safe ≡ served_by v.safe (serve v.safe request w.time)
     serving_then w = served_at v.safe request 0 w.time
 
     made_sent : how ≡ None → (w : World) → StandsIn w v past → (t : Result Reply ServeRefusal) → serve v.safe request w.time ≡ t
-        → where_up (nothing w) v.standing (after_serve w v (serve v.safe request w.time)) ≡ (world_with w q later, serve_told t, serve_sent t)
+        → where_up (nothing w) v.standing (after_serve w v (serve v.safe request w.time)) ≡ (world_with w q (noting later w.time (serve_sent t)), serve_told t, serve_sent t)
     made_sent none w stands t is =
-        sent_made is_held v q past later (serving request v.safe) state stopped how came none w (serve v.safe request w.time) (keeps w) stands (serving_then w)
-        ∙ ap (λ t. (world_with w q later, serve_told t, serve_sent t)) is
+        sent_made is_held v q past later (serving request v.safe) state stopped how came none w (serve v.safe request w.time) stands (serving_then w)
+        ∙ ap (λ t. (world_with w q (noting later w.time (serve_sent t)), serve_told t, serve_sent t)) is
 
-    served_so : how ≡ None → (reply : Reply) → ((s : State) (now : ℕ) → state ≡ Some s → serve s request now ≡ Ok reply)
+    -- what is answered now is answered in a world of this time
+    then_so : (w : World) (t : Result Reply ServeRefusal) → w.time ≡ now → serve v.safe request now ≡ t → serve v.safe request w.time ≡ t
+    then_so w t time is = ap (serve v.safe request) time ∙ is
+
+    served_so : how ≡ None → (reply : Reply) → ((s : State) → state ≡ Some s → serve s request now ≡ Ok reply)
         → (told : Outcome) (sent : Option Reply) → sent ≡ Some reply → told ≡ outcomes.Served reply.from reply.to (length reply.items) (rows_in reply) (is_some reply.last)
         → ServedAs told sent
-    served_so none reply serves told sent sends tells w stands =
-        made_sent none w stands (Ok reply) (serves v.safe w.time (came.was_up none).1)
-        ∙ ap (λ o. let made : Sent Reply = (world_with w q later, o, Some reply) in made) (sym tells) ∙ ap (λ m. let made : Sent Reply = (world_with w q later, told, m) in made) (sym sends)
+    served_so none reply serves told sent sends tells w time stands =
+        made_sent none w stands (Ok reply) (then_so w (Ok reply) time (serves v.safe (came.was_up none).1))
+        ∙ ap (λ n. let made : Sent Reply = (world_with w q (noting later n (Some reply)), serve_told (Ok reply), Some reply) in made) time
+        ∙ ap (λ o. let made : Sent Reply = (world_with w q (noting later now (Some reply)), o, Some reply) in made) (sym tells)
+        ∙ ap (λ m. let made : Sent Reply = (world_with w q (noting later now m), told, m) in made) (sym sends)
 
-    unserved_so : how ≡ None → (refusal : ServeRefusal) → ((s : State) (now : ℕ) → state ≡ Some s → serve s request now ≡ Err refusal)
+    unserved_so : how ≡ None → (refusal : ServeRefusal) → ((s : State) → state ≡ Some s → serve s request now ≡ Err refusal)
         → (told : Outcome) → told ≡ serve_refused refusal → ServedAs told None
-    unserved_so none refusal refuses told tells w stands =
-        made_sent none w stands (Err refusal) (refuses v.safe w.time (came.was_up none).1)
+    unserved_so none refusal refuses told tells w time stands =
+        made_sent none w stands (Err refusal) (then_so w (Err refusal) time (refuses v.safe (came.was_up none).1))
         ∙ ap (λ o. let sent : Sent Reply = nothing (world_with w q later) o in sent) (sym tells)
 
     -- where a reply was made nothing was committed
-    served_undone : how ≡ None → (reply : Reply) → ((s : State) (now : ℕ) → state ≡ Some s → serve s request now ≡ Ok reply) → IsUndone v past q later
-    served_undone none reply serves = came.idle none (ap (served_by v.safe) (serves v.safe 0 (came.was_up none).1))
+    served_undone : how ≡ None → (reply : Reply) → ((s : State) → state ≡ Some s → serve s request now ≡ Ok reply) → IsUndone v past q later
+    served_undone none reply serves = came.idle none (served_at v.safe request 0 now ∙ ap (served_by v.safe) (serves v.safe (came.was_up none).1))
 
     hindered_serve : (h : Hindrance) → how ≡ Some h → (told : Outcome) → hindered_so h stopped ≡ Some told → ServedAs told None
-    hindered_serve h is told tells w stands =
+    hindered_serve h is told tells w time stands =
         let t = serve v.safe request w.time in
         sent_so w v q past later (serving request v.safe) told (after_serve w v t) (came.hinders h is told tells) stands
-        (λ p up ofp. (serve_told t, ((serve_makes w v t (keeps w)).1 p (sym (serving_then w) ∙ ofp)).0))
+        (λ p up ofp. (serve_told t, ((serve_makes w v t).1 p (sym (serving_then w) ∙ ofp)).0))
 
     abbrev ServedBy : Outcome × Option Reply → Type 0
     ServedBy sent = ServedAs sent.0 sent.1
 
     -- what is known of the call alone
     abbrev Serves : Result Reply (CallRefusal ServeRefusal) → Type 0
-    Serves made = IfOk made (λ reply. (s : State) (now : ℕ) → state ≡ Some s → serve s request now ≡ Ok reply)
+    Serves made = IfOk made (λ reply. (s : State) → state ≡ Some s → serve s request now ≡ Ok reply)
 
     module _ {E : Type 0} {made : Result Reply (CallRefusal ServeRefusal)} {r : Result (Outcome × Option Reply) E} {d : Bool} (says : how ≡ call_hindrance made) (ends : EndsSent made r d) (serves : Serves made) where
-      pub ok_served : d ≡ stopped → ((s : State) (refusal : ServeRefusal) (now : ℕ) → state ≡ Some s → made ≡ Err (Refused refusal) → serve s request now ≡ Err refusal) → IfOk r ServedBy
+      pub ok_served : d ≡ stopped → ((s : State) (refusal : ServeRefusal) → state ≡ Some s → made ≡ Err (Refused refusal) → serve s request now ≡ Err refusal) → IfOk r ServedBy
       ok_served same refuses =
           if_sent ServedBy ends
           (λ reply is sent both. served_so (says ∙ ap call_hindrance is) reply (if_ok_is _ made reply is serves) sent.0 sent.1 both.0 both.1)
-          (λ refusal is. unserved_so (says ∙ ap call_hindrance is) refusal (λ s now there. refuses s refusal now there is) (serve_refused refusal) refl)
+          (λ refusal is. unserved_so (says ∙ ap call_hindrance is) refusal (λ s there. refuses s refusal there is) (serve_refused refusal) refl)
           (λ h is told tells. hindered_serve h (says ∙ ap call_hindrance is) told (ap (hindered_so h) (sym same) ∙ tells))
 
       -- a reply that is sent is one that its state serves
-      pub served_spelled : (P : Reply → Type 0) → ((reply : Reply) → state ≡ Some v.safe → serve v.safe request 0 ≡ Ok reply → P reply) → IfOk r (λ sent. IfSome sent.1 P)
+      pub served_spelled : (P : Reply → Type 0) → ((reply : Reply) → state ≡ Some v.safe → serve v.safe request now ≡ Ok reply → P reply) → IfOk r (λ sent. IfSome sent.1 P)
       served_spelled P spelled = sent_holds P ends
-          (λ reply is. let there = (came.was_up (says ∙ ap call_hindrance is)).1 in spelled reply there (if_ok_is _ made reply is serves v.safe 0 there))
+          (λ reply is. let there = (came.was_up (says ∙ ap call_hindrance is)).1 in spelled reply there (if_ok_is _ made reply is serves v.safe there))
 
       pub serve_undone : OnErr r (IsUndone v past q later)
       serve_undone = unless_sent (IsUndone v past q later) ends

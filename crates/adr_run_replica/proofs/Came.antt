@@ -12,7 +12,7 @@ use Rattle.adr_model.specs.Lengths.{log_limit, change_fits}
 use Rattle.adr_model.specs.Refused.{full}
 use Rattle.adr_disk.specs.declared.memory.Plan.{Plan}
 use Rattle.adr_model.specs.Replica.{Replica, Pending, Book, moved, moves_of_commit, commit_goes, outcome_after, Up, Down as stands_down, Failed as stands_failed}
-use Rattle.adr_model.specs.World.{World, Gone, Sent, commit, stays, nothing, not_sent, where_up, with_replica}
+use Rattle.adr_model.specs.World.{World, LastReply, Gone, Sent, commit, stays, nothing, not_sent, where_up, with_replica}
 use Rattle.adr_model.specs.World.{committed as committed_in}
 use Rattle.adr_law_journal.specs.Areas.{Found, found, Started}
 use Rattle.adr_law_journal.specs.Replicas.{Has, read_found, safe_found, committed, standing_of}
@@ -36,8 +36,9 @@ use Rattle.adr_run_replica.proofs.Went.{up_answers, fault_answers, none_kept, sa
 -- a controller that is as it was leaves its world so
 pub same_world : (w : World) (r q : Replica) (past later : Past) → StandsIn w r past → q ≡ r → later ≡ past → w ≡ world_with w q later
 same_world w r q past later stands is same =
-    ap (λ b. record w { book = b }) stands.book ∙ ap (λ rs. record w { book = past.book; replicas = rs }) (sym stands.there)
-    ∙ ap (λ x. record w { book = past.book; replicas = with_replica w.replicas x }) (sym is) ∙ ap (λ (p : Past). record w { book = p.book; replicas = with_replica w.replicas q }) (sym same)
+    ap (λ b. record w { book = b }) stands.book ∙ ap (λ l. record w { book = past.book; last_replies = l }) stands.told
+    ∙ ap (λ rs. record w { book = past.book; last_replies = past.last_replies; replicas = rs }) (sym stands.there)
+    ∙ ap (λ x. world_with w x past) (sym is) ∙ ap (λ (p : Past). world_with w q p) (sym same)
 
 -- a commit that the log has room for, and one that it hasn't
 module _ (w : World) (r q : Replica) (past later : Past) (p : Pending) (o told : Outcome) where
@@ -45,11 +46,12 @@ module _ (w : World) (r q : Replica) (past later : Past) (p : Pending) (o told :
       → outcome_after (commit_goes r p) o ≡ told → commit w r p o ≡ (world_with w q later, told)
   commit_made stands fits is comes tells =
       let g = commit_goes r p in
-      let gone : Book → Replica → Outcome → Gone = λ b x t. (record w { book = b; replicas = with_replica w.replicas x }, t) in
+      let gone : Book → List LastReply → Replica → Outcome → Gone = λ b l x t. (record w { book = b; last_replies = l; replicas = with_replica w.replicas x }, t) in
       let book_of : Book → Book = λ b. (fold moved (b, r) (moves_of_commit p g)).0 in
       ap (λ x. if x then committed_in w r p o else (w, full Log log_limit)) fits
-      ∙ ap (λ b. gone (book_of b) (committed b r p) (outcome_after g o)) stands.book ∙ ap (λ t. gone (book_of past.book) (committed past.book r p) t) tells
-      ∙ ap (λ x. gone (book_of past.book) x told) (sym is) ∙ ap (λ (x : Past). gone x.book q told) (sym comes)
+      ∙ ap (λ b. gone (book_of b) w.last_replies (committed b r p) (outcome_after g o)) stands.book ∙ ap (λ l. gone (book_of past.book) l (committed past.book r p) (outcome_after g o)) stands.told
+      ∙ ap (λ t. gone (book_of past.book) past.last_replies (committed past.book r p) t) tells
+      ∙ ap (λ x. gone (book_of past.book) past.last_replies x told) (sym is) ∙ ap (λ (x : Past). gone x.book x.last_replies q told) (sym comes)
 
   pub commit_full : StandsIn w r past → change_fits r.device.safe_log r.safe.store p.change ≡ false → q ≡ r → later ≡ past → commit w r p o ≡ (world_with w q later, full Log log_limit)
   commit_full stands beyond is same =

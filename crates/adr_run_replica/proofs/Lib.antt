@@ -1,7 +1,6 @@
 mod Walks
 mod Seen
 mod Went
-pub mod Noted
 mod Came
 mod Ending
 mod Calls

@@ -7,7 +7,7 @@ use Rattle.adr_model.specs.Update.{Identifier}
 use Rattle.adr_model.specs.Store.{State}
 use Rattle.adr_disk.specs.declared.memory.Plan.{Plan}
 use Rattle.adr_model.specs.Replica.{Replica, Pending, Book, Device, Move, moved, moves_of_start, standing_after, outcome_after, start_goes, device_after_start, Standing, Up, Failed}
-use Rattle.adr_model.specs.World.{World, Gone, after_moves, starts, with_replica}
+use Rattle.adr_model.specs.World.{World, LastReply, Gone, after_moves, starts, with_replica}
 use Rattle.adr_law_journal.specs.Areas.{Started}
 use Rattle.adr_law_journal.specs.Replicas.{Has, started, standing_of}
 use Rattle.adr_controller.specs.Running.{Running}
@@ -25,11 +25,12 @@ pub moves_made : (w : World) (r q : Replica) (past later : Past) (moves : List M
     → q ≡ record (fold moved (past.book, r) moves).1 { standing = standing; device = device } → later ≡ (ahead_of past r moves).past → o ≡ told
     → after_moves w r moves standing device o ≡ (world_with w q later, told)
 moves_made w r q past later moves standing device o told stands is comes tells =
-    let gone : Book → Replica → Outcome → Gone = λ b x t. (record w { book = b; replicas = with_replica w.replicas x }, t) in
+    let gone : Book → List LastReply → Replica → Outcome → Gone = λ b l x t. (record w { book = b; last_replies = l; replicas = with_replica w.replicas x }, t) in
     let book_of : Book → Book = λ b. (fold moved (b, r) moves).0 in
     let left : Book → Replica = λ b. record (fold moved (b, r) moves).1 { standing = standing; device = device } in
-    ap (λ b. gone (book_of b) (left b) o) stands.book ∙ ap (λ t. gone (book_of past.book) (left past.book) t) tells ∙ ap (λ x. gone (book_of past.book) x told) (sym is)
-    ∙ ap (λ (x : Past). gone x.book q told) (sym comes)
+    ap (λ b. gone (book_of b) w.last_replies (left b) o) stands.book ∙ ap (λ l. gone (book_of past.book) l (left past.book) o) stands.told
+    ∙ ap (λ t. gone (book_of past.book) past.last_replies (left past.book) t) tells ∙ ap (λ x. gone (book_of past.book) past.last_replies x told) (sym is)
+    ∙ ap (λ (x : Past). gone x.book x.last_replies q told) (sym comes)
 
 -- a start of what isn't up
 pub starts_so : (w : World) (r : Replica) (down : Bool) → r.standing ≡ standing_by down None

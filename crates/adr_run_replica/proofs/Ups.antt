@@ -48,8 +48,8 @@ module _ {K : Type 0} (k : Ghosts K) (read safe torn : K → Started State) (pla
     new_seen held = new_is
 
 -- what one that is up asks
-pub asked_so : (v : Replica) (s : State) (partner : Identifier) (max : ℕ) (request : Request) → v.standing ≡ Up → s ≡ v.safe → request ≡ ask s partner max 1 → (w : World)
-    → where_up (nothing w) v.standing (w, outcomes.Ok, Some (ask v.safe partner max 1)) ≡ (w, outcomes.Ok, Some request)
-asked_so v s partner max request up same is w =
+pub asked_so : (v : Replica) (s : State) (partner : Identifier) (max version : ℕ) (request : Request) → v.standing ≡ Up → s ≡ v.safe → request ≡ ask s partner max version → (w : World)
+    → where_up (nothing w) v.standing (w, outcomes.Ok, Some (ask v.safe partner max version)) ≡ (w, outcomes.Ok, Some request)
+asked_so v s partner max version request up same is w =
     let asks : Request → Sent Request = λ q. (w, outcomes.Ok, Some q) in
-    ap (λ st. where_up (nothing w) st (asks (ask v.safe partner max 1))) up ∙ ap asks (sym (is ∙ ap (λ s. ask s partner max 1) same))
+    ap (λ st. where_up (nothing w) st (asks (ask v.safe partner max version))) up ∙ ap asks (sym (is ∙ ap (λ s. ask s partner max version) same))

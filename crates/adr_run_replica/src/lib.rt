@@ -13,10 +13,12 @@ mod keepers;
 mod past;
 mod replica;
 mod restoring;
+mod reviving;
 mod snapshot;
 mod told;
 
 pub use adr_call::{Call, Outcome};
+pub use adr_controller::Revival;
 pub use adr_cycle::{Reply, Request};
 pub use adr_restore::Image;
 pub use adr_state::State;

@@ -2,19 +2,20 @@
 
 ghost use Rattle.std.specs.Prelude.{◌≡◌, ◌++◌, ◌∷◌, [], None};
 ghost use Rattle.adr_model.specs.Replica.{begun};
-ghost use Rattle.adr_run_replica.specs.Past.{nothing_yet};
+ghost use Rattle.adr_run_replica.specs.Past.{noting, nothing_yet};
 ghost use Rattle.adr_run_replica.specs.Told.{told_of};
 
 use crate::replica::Replica;
 use crate::told::{Deed, Told};
 use adr_call::Call;
 use adr_cycle::{Reply, Request};
+use adr_restore::Image;
 use adr_state::State;
-use adr_values::Guid;
+use adr_values::{Guid, Text};
 use std::marker::Model;
 
 /// The book of a run: what clients wrote, in the order in which it became safe, and the log of each incarnation, by its
-/// invocation identifier; and the identifiers that lines gave to controllers and to their databases, in order. It keeps
+/// invocation identifier; the last replies that were sent, each with its time; and the identifiers that lines gave to controllers and to their databases, in order. It keeps
 /// nothing when it runs: contracts see it.
 #[derive(Drop)]
 pub struct Past {
@@ -37,6 +38,16 @@ impl Past {
         Past { told: Told::new() }
     }
 
+    /// The same past.
+    pub fn again(&self) -> Past
+        ensures { result ≡ self.now }
+    {
+        let still = Deed::Still;
+        Past {
+            told: self.told.with(&still),
+        }
+    }
+
     /// An incarnation begins with what its state has.
     pub fn begin(&mut self, state: &State)
         ensures { self.new ≡ record self.old { book = begun self.old.book state.now } }
@@ -52,6 +63,16 @@ impl Past {
     {
         let gave = Deed::Gave { dsa, inv };
         self.told = self.told.with(&gave);
+    }
+
+    /// This was sent at a time in seconds, if anything was.
+    pub(crate) fn note(&mut self, sent: &Option<Reply>, now: u64)
+        ensures { self.new ≡ noting self.old now sent.now }
+    {
+        if let Some(reply) = sent {
+            let noted = Deed::Noted { reply, now };
+            self.told = self.told.with(&noted);
+        }
     }
 
     /// A line gives the identifier of a database alone.
@@ -97,7 +118,10 @@ pub(crate) struct Ahead {
 }
 
 impl Ahead {
-    pub(crate) fn of(past: &Past, deed: &Deed<'_, State, Replica, Call, Request, Reply>) -> Ahead
+    pub(crate) fn of(
+        past: &Past,
+        deed: &Deed<'_, State, Replica, Call, Request, Reply, Image, Text>,
+    ) -> Ahead
         ensures past { result.past ≡ (told_of past.now deed.now).past }
         ensures kept { result.kept ≡ (told_of past.now deed.now).kept }
     {

@@ -1,7 +1,7 @@
 //! A controller of a run.
 
 ghost use Rattle.std.specs.Prelude.{◌≡◌, ◌≢◌, ◌⊎◌, ◌<◌, Some, Ok, Err, OnErr, IfErr, IfOk, IfSome, true, false, OnOk, IsErrOf};
-ghost use Rattle.adr_call.specs.Supported.{IsSupportedCall};
+ghost use Rattle.adr_wire.specs.Headed.{is_version};
 ghost use Rattle.adr_wire.specs.Ranges.{IsId};
 ghost use Rattle.adr_model.specs.Spelled.{IsSpelledReply};
 ghost use Rattle.adr_law_recorded.specs.Typed.{IsTypedCall};
@@ -15,7 +15,8 @@ ghost use Rattle.adr_model.specs.Take.{take};
 ghost use Rattle.adr_model.specs.World.{World as Defined, after_call, after_serve, after_take, nothing, starts, stays, stops, where_up};
 ghost use Rattle.adr_model.specs.Client.{IsWellAsked, call_meant, done};
 ghost use Rattle.adr_records.specs.Logged.{IsLogged, MayBegin};
-ghost use Rattle.adr_run_replica.specs.Led.{IsDone, IsUndone, Leads, LeadsTo, synced};
+ghost use Rattle.adr_run_replica.specs.Led.{IsDone, IsUndone, Leads, LeadsAt, synced};
+ghost use Rattle.adr_run_replica.specs.Past.{noting};
 
 use crate::hindered::{hindered, hindrance_in, hindrance_of_start, settle};
 use crate::keepers::goes_as_planned;
@@ -29,7 +30,7 @@ use adr_journal::Journal;
 use adr_law_recorded::{
     collections_are_recorded, logged_states_fit, new_controllers_may_begin,
     quarantines_are_recorded, recorded_changes_leave_logged_states, replies_are_in_range,
-    requests_are_in_range, taken_replies_are_recorded, writes_are_recorded,
+    requests_are_in_range, taken_replies_are_recorded, upgrades_are_recorded, writes_are_recorded,
 };
 use adr_outcome::{sent, serve_refused, take_refused, unsent};
 use adr_records::Records;
@@ -160,7 +161,6 @@ impl Replica {
     ) -> Result<Outcome, NoMemory>
         requires given { IsWellAsked what.now }
         requires typed { IsTypedCall what.now }
-        requires supported { IsSupportedCall what.now }
         ensures called { let call = call_meant what.now now in
             IfOk result (λ outcome. Leads self.old past.old (λ w. where_up (stays w) self.old.standing (after_call w self.old call (done self.old.safe call))) self.new past.new outcome) }
         ensures err { OnErr result (IsUndone self.old past.old self.new past.new) }
@@ -180,6 +180,7 @@ impl Replica {
         logged_states_fit();
         writes_are_recorded();
         collections_are_recorded();
+        upgrades_are_recorded();
         let made = self.controller.call(alloc, what, now);
         let how = hindrance_in(&made);
         let stopped = settle(&mut self.controller, &mut self.kept, past, ahead, how);
@@ -190,34 +191,57 @@ impl Replica {
         }
     }
 
-    /// What it asks a partner of this identifier in version 1, at most `max` items in one reply.
+    /// What it asks a partner of this identifier in a version, at most `max` items in one reply.
     pub fn ask(
         &self,
         alloc: Global,
         partner: Guid,
         max: u32,
+        version: u16,
     ) -> Result<(Outcome, Option<Request>), NoMemory>
-        ensures asked { IfOk result (λ sent. (w : Defined) → where_up (nothing w) self.now.standing (w, Outcome.Ok, Some (ask self.now.safe partner max 1)) ≡ (w, sent.0, sent.1)) }
+        requires version { is_version version ≡ true }
+        ensures asked { IfOk result (λ sent. (w : Defined) → where_up (nothing w) self.now.standing (w, Outcome.Ok, Some (ask self.now.safe partner max version)) ≡ (w, sent.0, sent.1)) }
         ensures ranged { IfOk result (λ sent. IfSome sent.1 IsRangedRequest) }
     {
         goes_as_planned(&self.controller);
         requests_are_in_range();
-        match self.controller.ask(alloc, partner, max) {
+        match self.controller.ask(alloc, partner, max, version) {
             Ok(request) => Ok((Outcome::Ok, Some(request))),
             // Asking calls no disk, so that none stopped within it.
             Err(hindrance) => Ok((hindered(hindrance, false)?, None)),
         }
     }
 
-    /// What a request is answered.
+    /// What a request is answered at a time in seconds.
     pub fn serve(
         &mut self,
         alloc: Global,
         past: &mut Past,
         request: &Request,
+        now: u64,
     ) -> Result<(Outcome, Option<Reply>), NoMemory>
         requires { IsRangedRequest request.now }
-        ensures served { IfOk result (λ sent. LeadsTo self.old past.old (λ w. where_up (nothing w) self.old.standing (after_serve w self.old (serve self.old.safe request.now w.time))) self.new past.new sent.0 sent.1) }
+        ensures served { IfOk result (λ sent. LeadsAt now self.old past.old (λ w. where_up (nothing w) self.old.standing (after_serve w self.old (serve self.old.safe request.now w.time))) self.new past.new sent.0 sent.1) }
+        ensures spelled { IfOk result (λ sent. IfSome sent.1 (λ reply. IsSpelledReply reply × IsRangedReply reply)) }
+        ensures err { OnErr result (IsUndone self.old past.old self.new past.new) }
+        ensures name { self.new.name ≡ self.old.name }
+        ensures given { past.new.given ≡ past.old.given }
+    {
+        let sent = self.answer(alloc, past, request, now)?;
+        past.note(&sent.1, now);
+        Ok(sent)
+    }
+
+    /// What a request is answered, before the reply is noted.
+    fn answer(
+        &mut self,
+        alloc: Global,
+        past: &mut Past,
+        request: &Request,
+        now: u64,
+    ) -> Result<(Outcome, Option<Reply>), NoMemory>
+        requires { IsRangedRequest request.now }
+        ensures served { IfOk result (λ sent. LeadsAt now self.old past.old (λ w. where_up (nothing w) self.old.standing (after_serve w self.old (serve self.old.safe request.now w.time))) self.new (noting past.new now sent.1) sent.0 sent.1) }
         ensures spelled { IfOk result (λ sent. IfSome sent.1 (λ reply. IsSpelledReply reply × IsRangedReply reply)) }
         ensures err { OnErr result (IsUndone self.old past.old self.new past.new) }
         ensures name { self.new.name ≡ self.old.name }
@@ -235,7 +259,7 @@ impl Replica {
         logged_states_fit();
         quarantines_are_recorded();
         replies_are_in_range();
-        let made = self.controller.serve(alloc, request);
+        let made = self.controller.serve(alloc, request, now);
         let how = hindrance_in(&made);
         let stopped = settle(&mut self.controller, &mut self.kept, past, ahead, how);
         match made {

@@ -7,14 +7,17 @@ ghost use Rattle.adr_run_replica.specs.Told.{keeping_none, told_of};
 use crate::replica::Replica;
 use adr_call::Call;
 use adr_cycle::{Reply, Request};
+use adr_restore::Image;
 use adr_state::State;
-use adr_values::Guid;
+use adr_values::{Guid, Text};
 use std::marker::Model;
 
 /// What a past is told, also before a call that may commit something. The types behind the references are parameters,
 /// since the check isn't told which modules hold a type that an enum has behind a reference.
 #[derive(Drop)]
-pub(crate) enum Deed<'a, S, R, C, Q, A> {
+pub(crate) enum Deed<'a, S, R, C, Q, A, I, T> {
+    /// Nothing more.
+    Still,
     /// An incarnation begins with what its state has.
     Begun(&'a S),
     /// A line gives the identifiers of a controller and of its database.
@@ -26,10 +29,24 @@ pub(crate) enum Deed<'a, S, R, C, Q, A> {
     GaveInv {
         inv: Guid,
     },
+    /// A reply was sent, at a time.
+    Noted {
+        reply: &'a A,
+        now: u64,
+    },
     /// A controller is about to do what a client calls for, at a time.
     Calls {
         replica: &'a R,
         what: &'a C,
+        now: u64,
+    },
+    /// An object of an image is about to come again at it, under a name, at a time.
+    Revives {
+        replica: &'a R,
+        image: &'a I,
+        guid: Guid,
+        parent: Guid,
+        text: &'a T,
         now: u64,
     },
     /// It is about to answer a request.
@@ -69,7 +86,10 @@ impl Told {
     }
 
     /// And one thing more.
-    pub(crate) fn with(&self, _deed: &Deed<'_, State, Replica, Call, Request, Reply>) -> Told
+    pub(crate) fn with(
+        &self,
+        _deed: &Deed<'_, State, Replica, Call, Request, Reply, Image, Text>,
+    ) -> Told
         ensures { result.ahead ≡ told_of self.now.ahead.past _deed.now }
     {
         Told {}

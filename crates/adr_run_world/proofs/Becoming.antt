@@ -9,16 +9,16 @@ use Rattle.adr_disk.specs.declared.memory.Plan.{Plan}
 use Rattle.adr_model.specs.Replica.{Replica, Up}
 use Rattle.adr_model.specs.World.{World, Name, Gone, Sent, replica_at, of_made, of_controller, where_up, stays, nothing, with_plan, with_replica}
 use Rattle.adr_run_replica.specs.Past.{Past}
-use Rattle.adr_run_replica.specs.Led.{StandsIn, IsUndone, IsDone, Leads, LeadsTo, synced, world_with}
+use Rattle.adr_run_replica.specs.Led.{StandsIn, IsUndone, IsDone, Leads, LeadsAt, synced, world_with}
 use Rattle.adr_run_world.specs.declared.run.Run.{Run}
-use Rattle.adr_run_world.specs.Run.{AreApart, AreRanged, AreSpelled, IsTidy, world_of}
+use Rattle.adr_run_world.specs.Run.{AreApart, AreRanged, AreSpelled, IsTidy, with_past, world_of}
 use Rattle.adr_run_world.specs.Short.{IsCutShort}
 use Rattle.adr_run_world.proofs.Places.{at_place, placed, unplaced, apart_still}
 use Rattle.adr_run_world.proofs.Calls.{reaches}
 
 -- the world in which the controller at a place became this one, and the past that one
 abbrev pub run_with : Run → ℕ → Replica → Past → World
-run_with r i new later = record (world_of r) { book = later.book; replicas = slice_set r.controllers.items i new; given = later.given }
+run_with r i new later = record (world_of r) { book = later.book; last_replies = later.last_replies; replicas = slice_set r.controllers.items i new; given = later.given }
 
 -- the controller at the place of a name is the one of the name
 pub found_there : (r : Run) (name : Name) (i : ℕ) (d : Replica) → i < length r.controllers.items → d ≡ slice_index_or r.controllers.items i d → replica_at (world_of r) name ≡ slice_get r.controllers.items i
@@ -42,14 +42,14 @@ module _ {r : Run} {name : Name} {i : ℕ} {d new : Replica} {later : Past} (b :
   there = found_there r name i d b.place b.read b.found
 
   pub stands : StandsIn (world_of r) d r.past
-  stands = record { book = refl; there = sym (placed r.controllers.items i d d b.tidy.apart at refl) ∙ unplaced r.controllers.items i d at }
+  stands = record { book = refl; told = refl; there = sym (placed r.controllers.items i d d b.tidy.apart at refl) ∙ unplaced r.controllers.items i d at }
 
   -- nothing has changed
   pub undone : IsUndone d r.past new later → run_with r i new later ≡ world_of r
   undone is =
-      ap (λ (x : Replica). record (world_of r) { book = later.book; replicas = slice_set r.controllers.items i x; given = later.given }) is.0
-      ∙ ap (λ rs. record (world_of r) { book = later.book; replicas = rs; given = later.given }) (unplaced r.controllers.items i d at)
-      ∙ ap (λ (p : Past). record (world_of r) { book = p.book; given = p.given }) is.1
+      ap (λ (x : Replica). run_with r i x later) is.0
+      ∙ ap (λ rs. record (with_past later (world_of r)) { replicas = rs }) (unplaced r.controllers.items i d at)
+      ∙ ap (λ (p : Past). with_past p (world_of r)) is.1
 
   -- names still differ, and a run with the same messages is in order
   pub apart_with : AreApart (slice_set r.controllers.items i new)
@@ -64,8 +64,8 @@ module _ {r : Run} {name : Name} {i : ℕ} {d new : Replica} {later : Past} (b :
 
   became : world_with (world_of r) new later ≡ run_with r i new later
   became =
-      ap (λ rs. record (world_of r) { book = later.book; replicas = rs }) (sym (placed r.controllers.items i d new b.tidy.apart at b.named))
-      ∙ ap (λ g. record (world_of r) { book = later.book; replicas = slice_set r.controllers.items i new; given = g }) (sym b.given)
+      ap (λ rs. record (world_of r) { book = later.book; last_replies = later.last_replies; replicas = rs }) (sym (placed r.controllers.items i d new b.tidy.apart at b.named))
+      ∙ ap (λ g. record (world_of r) { book = later.book; last_replies = later.last_replies; replicas = slice_set r.controllers.items i new; given = g }) (sym b.given)
 
   -- what a call by the name comes to, where the controller is up
   pub led : (act : Replica → Gone) (o : Outcome) → where_up (stays (world_of r)) d.standing (act d) ≡ (world_with (world_of r) new later, o)
@@ -86,9 +86,9 @@ module _ {r : Run} {name : Name} {i : ℕ} {d new : Replica} {later : Past} (b :
   leads t act = IfOk-weaker t _ _ (λ o is. led (act (world_of r)) o (is (world_of r) stands))
 
   pub leads_to : {A E : Type 0} (t : Result (Outcome × Option A) E) (act : World → Replica → Sent A)
-      → IfOk t (λ m. LeadsTo d r.past (λ w. where_up (nothing w) d.standing (act w d)) new later m.0 m.1)
+      → IfOk t (λ m. LeadsAt r.time d r.past (λ w. where_up (nothing w) d.standing (act w d)) new later m.0 m.1)
       → IfOk t (λ m. of_controller (world_of r) name (nothing (world_of r)) (act (world_of r)) ≡ (run_with r i new later, m.0, m.1))
-  leads_to t act = IfOk-weaker t _ _ (λ m is. led_to (act (world_of r)) m.0 m.1 (is (world_of r) stands))
+  leads_to t act = IfOk-weaker t _ _ (λ m is. led_to (act (world_of r)) m.0 m.1 (is (world_of r) refl stands))
 
   pub leads_anyhow : {E : Type 0} (t : Result Outcome E) (act : World → Replica → Gone) → IfOk t (λ o. Leads d r.past (λ w. act w d) new later o)
       → IfOk t (λ o. of_made (stays (world_of r)) (replica_at (world_of r) name) (act (world_of r)) ≡ (run_with r i new later, o))

@@ -7,6 +7,7 @@ use Rattle.adr_model.specs.Replica.{Replica}
 use Rattle.adr_model.specs.Serve.{Request, Reply}
 use Rattle.adr_model.specs.World.{World, Name}
 use Rattle.adr_model.specs.Sound.{IsWorldOfRun}
+use Rattle.adr_run_replica.specs.Past.{Past}
 use Rattle.adr_run_world.specs.declared.run.Run.{Run}
 
 abbrev pub world_of : Run → World
@@ -15,7 +16,7 @@ world_of r =
       time = r.time;
       clean = r.clean;
       book = r.past.book;
-      last_replies = [];  -- all replies are of version 1
+      last_replies = r.past.last_replies;
       replicas = r.controllers.items;
       requests = r.requests;
       replies = r.replies;
@@ -23,6 +24,10 @@ world_of r =
       snapshots = r.snapshots;
       given = r.past.given;
     }
+
+-- a world with another past
+abbrev pub with_past : Past → World → World
+with_past p w = record w { book = p.book; last_replies = p.last_replies; given = p.given }
 
 -- no two controllers have one name
 abbrev pub AreApart : List Replica → Type 0

@@ -1,7 +1,6 @@
 //! What clients have controllers do.
 
 ghost use Rattle.std.specs.Prelude.{◌≡◌, IfOk, OnErr};
-ghost use Rattle.adr_call.specs.Supported.{IsSupportedCall};
 ghost use Rattle.adr_law_recorded.specs.Typed.{IsTypedCall};
 ghost use Rattle.adr_model.specs.Client.{IsWellAsked, call_meant};
 ghost use Rattle.adr_model.specs.World.{does};
@@ -18,7 +17,6 @@ impl Run {
         requires tidy { IsTidy self.old }
         requires given { IsWellAsked what.now }
         requires typed { IsTypedCall what.now }
-        requires supported { IsSupportedCall what.now }
         ensures called { IfOk result (λ outcome. let w = world_of self.old in does w name.now (call_meant what.now w.time) ≡ (world_of self.new, outcome)) }
         ensures err { OnErr result (world_of self.new ≡ world_of self.old) }
         ensures tidy { IsTidy self.new }

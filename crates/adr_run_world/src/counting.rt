@@ -1,7 +1,6 @@
 //! Lines whose answers are counted, and not written.
 
 ghost use Rattle.std.specs.Prelude.{◌≡◌, OnOk};
-ghost use Rattle.adr_call.specs.Supported.{IsSupported};
 ghost use Rattle.adr_law_recorded.specs.Typed.{IsTyped};
 ghost use Rattle.adr_model.specs.Convergence.{MayHappen};
 ghost use Rattle.adr_model.specs.Step.{step};
@@ -60,7 +59,6 @@ impl Run {
         requires sound { IsSoundRun self.old }
         requires may { MayHappen (world_of self.old) event.now }
         requires typed { IsTyped event.now }
-        requires supported { IsSupported event.now }
         ensures stepped { OnOk result (world_of self.new ≡ (step (world_of self.old) event.now).0) }
         ensures counted { OnOk result (tally.new ≡ counted tally.old (step (world_of self.old) event.now).1) }
         ensures sound { IsSoundRun self.new }

@@ -21,6 +21,7 @@ mod pulling;
 mod putting_back;
 mod reports;
 mod restoring;
+mod reviving;
 mod ringing;
 mod room;
 mod run;

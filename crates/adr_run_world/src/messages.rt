@@ -1,52 +1,58 @@
 //! Requests and replies.
 
-ghost use Rattle.std.specs.Prelude.{◌≡◌, Some, codes, IfOk, IfSome, OnErr};
+ghost use Rattle.std.specs.Prelude.{◌≡◌, Some, codes, IfOk, IfSome, IsSome, OnErr, OnOk, true};
 ghost use Rattle.adr_call.specs.declared.event.Event.TheVariants.{Ask, Serve};
+ghost use Rattle.adr_wire.specs.Headed.{is_version};
 ghost use Rattle.adr_model.specs.Spelled.{IsSpelledReply};
 ghost use Rattle.adr_law_recorded.specs.Ranged.{IsRangedReply, IsRangedRequest};
 ghost use Rattle.adr_model.specs.Convergence.{IsUnbound};
 ghost use Rattle.adr_model.specs.Step.{step, told};
-ghost use Rattle.adr_model.specs.World.{asks, bound_at, delivers, serves_request};
+ghost use Rattle.adr_model.specs.World.{asks, bound, bound_at, delivers, serves_request};
 ghost use Rattle.adr_run_world.specs.Run.{IsTidy, world_of};
 
 use crate::controller::not_there;
 use crate::run::Run;
 use adr_call::Outcome;
 use adr_cycle::{Reply, Request};
+use adr_run_replica::Past;
 use adr_values::{NoMemory, Text};
 use std::alloc::Global;
 
 impl Run {
-    /// What a controller is answered that asks a partner in version 1; the request is bound to a name.
+    /// What a controller is answered that asks a partner in a version; the request is bound to a name.
     pub fn ask(
         &mut self,
         alloc: Global,
         name: &Text,
         partner: &Text,
         max: u32,
+        version: u16,
         bound: &Text,
     ) -> Result<Outcome, NoMemory>
         requires tidy { IsTidy self.old }
+        requires version { is_version version ≡ true }
         requires unbound { IsUnbound (world_of self.old).requests bound.now }
         ensures stepped { IfOk result (λ outcome.
-            step (world_of self.old) (Ask name.now partner.now max 1 bound.now) ≡ told (codes "ask") name.now (world_of self.new, outcome)) }
+            step (world_of self.old) (Ask name.now partner.now max version bound.now) ≡ told (codes "ask") name.now (world_of self.new, outcome)) }
         ensures err { OnErr result (world_of self.new ≡ world_of self.old) }
         ensures tidy { IsTidy self.new }
     {
-        let sent = self.request(alloc, name, partner, max)?;
+        let sent = self.request(alloc, name, partner, max, version)?;
         self.requests.bind(alloc, bound, sent)
     }
 
-    /// What a controller that asks a partner in version 1 is answered, and the request if there is one.
+    /// What a controller that asks a partner in a version is answered, and the request if there is one.
     pub fn request(
         &self,
         alloc: Global,
         name: &Text,
         partner: &Text,
         max: u32,
+        version: u16,
     ) -> Result<(Outcome, Option<Request>), NoMemory>
+        requires version { is_version version ≡ true }
         ensures asked { IfOk result (λ sent.
-            asks (world_of self.now) name.now partner.now max 1 ≡ (world_of self.now, sent.0, sent.1)) }
+            asks (world_of self.now) name.now partner.now max version ≡ (world_of self.now, sent.0, sent.1)) }
         ensures ranged { IfOk result (λ sent. IfSome sent.1 IsRangedRequest) }
     {
         let Some(asker) = self.place_of(name) else {
@@ -56,7 +62,7 @@ impl Run {
             return Ok((Outcome::Absent, None));
         };
         let dsa = self.controllers[asked].dsa();
-        self.controllers[asker].ask(alloc, dsa, max)
+        self.controllers[asker].ask(alloc, dsa, max, version)
     }
 
     /// What a controller is answered that serves a request, which was bound to a name and is read where it stands;
@@ -81,8 +87,33 @@ impl Run {
         let Some(request) = self.requests.get(request) else {
             return Ok(not_there(&self.controllers[place]));
         };
-        let sent = self.controllers[place].serve(alloc, &mut self.past, request)?;
-        self.replies.bind(alloc, bound, sent)
+        let before = self.past.again();
+        let sent = self.controllers[place].serve(alloc, &mut self.past, request, self.time)?;
+        self.bind_reply(alloc, bound, sent, before)
+    }
+
+    /// Binds the reply of a call to a name, if it made one, and gives what is answered. One that can't be kept is taken as
+    /// one that wasn't sent: the past is this one, from before the call.
+    fn bind_reply(
+        &mut self,
+        alloc: Global,
+        name: &Text,
+        sent: (Outcome, Option<Reply>),
+        before: Past,
+    ) -> Result<Outcome, NoMemory>
+        requires { IsUnbound self.old.replies name.now }
+        ensures outcome { IfOk result (λ outcome. outcome ≡ sent.0) }
+        ensures ok { OnOk result (self.new ≡ record self.old { replies = bound self.old.replies name.now sent.1 }) }
+        ensures err { OnErr result (self.new ≡ record self.old { past = before }) }
+        ensures some { OnErr result (IsSome sent.1) }
+    {
+        match self.replies.bind(alloc, name, sent) {
+            Ok(outcome) => Ok(outcome),
+            Err(failure) => {
+                self.past = before;
+                Err(failure)
+            }
+        }
     }
 
     /// What comes of a request, and the reply if it isn't refused.
@@ -103,7 +134,7 @@ impl Run {
         let Some(place) = self.place_of(name) else {
             return Ok((Outcome::Absent, None));
         };
-        self.controllers[place].serve(alloc, &mut self.past, request)
+        self.controllers[place].serve(alloc, &mut self.past, request, self.time)
     }
 
     /// What a controller that takes a reply is answered, which was bound to a name. It is read where it stands: it may be

@@ -1,7 +1,6 @@
 //! Running events, whose answers are written as they come.
 
 ghost use Rattle.std.specs.Prelude.{◌<◌, ◌≤◌, All, OnOk, OnErr, IsErrOf};
-ghost use Rattle.adr_call.specs.Supported.{IsSupported};
 ghost use Rattle.adr_io.specs.Told.{Adds, AddsFront};
 ghost use Rattle.adr_law_recorded.specs.Typed.{AreTyped};
 ghost use Rattle.adr_model.specs.Convergence.{MayAllHappen};
@@ -23,7 +22,6 @@ fn play_on<K: Sink>(
 ) -> Result<(), Fault>
     requires may { MayAllHappen world.old events.now }
     requires typed { AreTyped events.now }
-    requires supported { All IsSupported events.now }
     ensures ok { OnOk result (Adds (K.written sink.old) (K.written sink.new) (output_from world.old events.now)) }
     ensures front { OnErr result (AddsFront (K.written sink.old) (K.written sink.new) (output_from world.old events.now)) }
     ensures never_falls { K.faults sink.old ≤ K.faults sink.new }
@@ -39,7 +37,6 @@ fn play_on<K: Sink>(
 pub fn play<K: Sink>(alloc: Global, events: &[Event], sink: &mut K) -> Result<(), Fault>
     requires may { MayAllHappen empty_world events.now }
     requires typed { AreTyped events.now }
-    requires supported { All IsSupported events.now }
     ensures ok { OnOk result (Adds (K.written sink.old) (K.written sink.new) (output_from empty_world events.now)) }
     ensures front { OnErr result (AddsFront (K.written sink.old) (K.written sink.new) (output_from empty_world events.now)) }
     ensures never_falls { K.faults sink.old ≤ K.faults sink.new }

@@ -4,18 +4,22 @@ ghost use Rattle.std.specs.Prelude.{◌≡◌, ◌++◌, ◌+◌, ◌∷◌, ◌
 ghost use Rattle.std.specs.Vec.{vec_capacity};
 ghost use Rattle.adr_model.specs.Spelled.{IsSpelledReply};
 ghost use Rattle.adr_law_recorded.specs.Ranged.{IsRangedReply, IsRangedRequest};
-ghost use Rattle.adr_model.specs.Cycles.{pull, pull_asked, pull_served, was_taken};
+ghost use Rattle.adr_model.specs.Cycles.{pull, pull_asked, pull_served, pull_version, was_taken};
 ghost use Rattle.adr_model.specs.World.{answer, asks, serves_request};
 ghost use Rattle.adr_run_world.specs.Pulls.{IsCycleTurn, behind};
-ghost use Rattle.adr_run_world.specs.Run.{IsTidy, world_of};
+ghost use Rattle.adr_run_world.specs.Run.{IsTidy, with_past, world_of};
 
 use crate::lists::put;
 use crate::run::Run;
 use adr_answers::Heading;
 use adr_call::{Answer, Outcome};
 use adr_cycle::{Reply, Request};
+use adr_run_replica::Past;
 use adr_values::{NoMemory, Text};
 use std::alloc::Global;
+
+/// The version in which pulls ask.
+const PULL_VERSION: u16 = 2;
 
 /// The most replies of a cycle.
 pub const REPLY_LIMIT: u32 = 1_000_000;
@@ -37,16 +41,16 @@ impl Run {
         answers: &mut Vec<Answer>,
     ) -> Result<Option<Request>, NoMemory>
         requires { vec_len answers.old + 1 ≤ vec_capacity answers.old }
-        ensures sent { IfOk result (λ request. let t = asks (world_of self.now) dest.now source.now max 1 in
+        ensures sent { IfOk result (λ request. let t = asks (world_of self.now) dest.now source.now max pull_version in
             t ≡ (world_of self.now, t.1, request)) }
         ensures ranged { IfOk result (λ request. IfSome request IsRangedRequest) }
         ensures told { OnOk result (answers.new.items
-            ≡ answers.old.items ++ answer (codes "ask") dest.now (asks (world_of self.now) dest.now source.now max 1).1 ∷ []) }
+            ≡ answers.old.items ++ answer (codes "ask") dest.now (asks (world_of self.now) dest.now source.now max pull_version).1 ∷ []) }
         ensures len { OnOk result (vec_len answers.new ≡ vec_len answers.old + 1) }
         ensures capacity { vec_capacity answers.old ≤ vec_capacity answers.new }
     {
         let heading = Heading::new(alloc, "ask", dest)?;
-        let (outcome, request) = self.request(alloc, dest, source, max)?;
+        let (outcome, request) = self.request(alloc, dest, source, max, PULL_VERSION)?;
         put(answers, heading.of(outcome));
         Ok(request)
     }
@@ -103,6 +107,35 @@ impl Run {
         Ok(goes_on)
     }
 
+    /// The end of a pull, as `pull_served`. Where memory is wanting the reply is taken as one that wasn't sent: the past is
+    /// this one, from before.
+    fn pull_ended(
+        &mut self,
+        alloc: Global,
+        dest: &Text,
+        reply: &Reply,
+        before: Past,
+        answers: &mut Vec<Answer>,
+    ) -> Result<bool, NoMemory>
+        requires tidy { IsTidy self.old }
+        requires spelled { IsSpelledReply reply.now }
+        requires ranged { IsRangedReply reply.now }
+        requires room { vec_len answers.old + 1 ≤ vec_capacity answers.old }
+        ensures pulled { IfOk result (λ goes_on.
+            behind answers.old.items (pull_served dest.now (world_of self.old) (Some reply.now))
+            ≡ (world_of self.new, answers.new.items, goes_on)) }
+        ensures err { OnErr result (world_of self.new ≡ with_past before (world_of self.old)) }
+        ensures tidy { IsTidy self.new }
+    {
+        match self.pull_served(alloc, dest, reply, answers) {
+            Ok(goes_on) => Ok(goes_on),
+            Err(failure) => {
+                self.past = before;
+                Err(failure)
+            }
+        }
+    }
+
     /// The pull of a request that was made. The source's answer comes first.
     fn pull_asked(
         &mut self,
@@ -121,10 +154,11 @@ impl Run {
         ensures err { OnErr result (world_of self.new ≡ world_of self.old) }
         ensures tidy { IsTidy self.new }
     {
+        let before = self.past.again();
         let served = self.served(alloc, source, request, answers)?;
         match served {
             None => Ok(false),
-            Some(reply) => self.pull_served(alloc, dest, &reply, answers),
+            Some(reply) => self.pull_ended(alloc, dest, &reply, before, answers),
         }
     }
 
@@ -154,8 +188,8 @@ impl Run {
     }
 
     /// A pull: its answers, and whether a reply was taken that isn't the last. There is room for its answers, and each
-    /// heading is made, before the call that may change something: serving changes nothing where a reply is made. So where
-    /// memory is wanting nothing has changed.
+    /// heading is made, before the call that may change something: serving changes nothing where a reply is made, but that
+    /// it is noted. So where memory is wanting nothing has changed.
     pub fn pull(
         &mut self,
         alloc: Global,

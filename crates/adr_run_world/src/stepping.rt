@@ -1,7 +1,6 @@
 //! What each line does, by its kind.
 
 ghost use Rattle.std.specs.Prelude.{◌≡◌, ◌<◌, ◌≤◌, ◌⊎◌, IfOk, OnErr, OnOk, IsErrOf, flat_map};
-ghost use Rattle.adr_call.specs.Supported.{IsSupported};
 ghost use Rattle.adr_call.specs.Verbs.{name_of, verb_of, word_of};
 ghost use Rattle.adr_io.specs.Told.{Adds, AddsFront};
 ghost use Rattle.adr_law_recorded.specs.Typed.{IsTyped};
@@ -22,6 +21,7 @@ use crate::run::Run;
 use adr_answers::{Heading, name_of, tell};
 use adr_call::{Answer, Event, Outcome};
 use adr_io::{Fault, Sink};
+use adr_run_replica::Revival;
 use adr_values::NoMemory;
 use std::alloc::Global;
 
@@ -32,7 +32,6 @@ impl Run {
         requires sound { IsSoundRun self.old }
         requires may { MayHappen (world_of self.old) event.now }
         requires typed { IsTyped event.now }
-        requires supported { IsSupported event.now }
         ensures stepped { OnOk result (world_of self.new ≡ (step (world_of self.old) event.now).0) }
         ensures told { OnOk result (Adds (K.written sink.old) (K.written sink.new) (flat_map line (step (world_of self.old) event.now).1)) }
         ensures front { OnErr result (AddsFront (K.written sink.old) (K.written sink.new) (flat_map line (step (world_of self.old) event.now).1)) }
@@ -65,7 +64,6 @@ impl Run {
         requires sound { IsSoundRun self.old }
         requires may { MayHappen (world_of self.old) event.now }
         requires typed { IsTyped event.now }
-        requires supported { IsSupported event.now }
         ensures turned { IfOk result (λ told.
             IsTurn turn (world_of self.old) event.now (world_of self.new, told.0.items, told.1)) }
         ensures err { OnErr result (IsCutShort (world_of self.old) event.now (world_of self.new)) }
@@ -100,7 +98,6 @@ impl Run {
         requires alone { HasOneAnswer event.now }
         requires may { MayHappen (world_of self.old) event.now }
         requires typed { IsTyped event.now }
-        requires supported { IsSupported event.now }
         ensures stepped { IfOk result (λ answers.
             step (world_of self.old) event.now ≡ (world_of self.new, answers.items)) }
         ensures err { OnErr result (IsCutShort (world_of self.old) event.now (world_of self.new)) }
@@ -120,7 +117,6 @@ impl Run {
         requires alone { HasOneAnswer event.now }
         requires may { MayHappen (world_of self.old) event.now }
         requires typed { IsTyped event.now }
-        requires supported { IsSupported event.now }
         ensures stepped { IfOk result (λ outcome.
             step (world_of self.old) event.now ≡ told (word_of (verb_of event.now)) (name_of event.now) (world_of self.new, outcome)) }
         ensures err { OnErr result (IsCutShort (world_of self.old) event.now (world_of self.new)) }
@@ -133,15 +129,29 @@ impl Run {
                 name,
                 partner,
                 max,
-                version: _,
+                version,
                 bound,
-            } => self.ask(alloc, name, partner, *max, bound),
+            } => self.ask(alloc, name, partner, *max, *version, bound),
             Event::Serve {
                 name,
                 request,
                 bound,
             } => self.serve(alloc, name, request, bound),
             Event::Deliver { name, reply } => self.take_bound(alloc, name, reply),
+            Event::Revive {
+                name,
+                guid,
+                image,
+                parent,
+                text,
+            } => {
+                let revival = Revival {
+                    guid: *guid,
+                    parent: *parent,
+                    text,
+                };
+                self.revive(alloc, name, image, &revival)
+            }
             Event::Backup { name, bound } => self.backup(alloc, name, bound),
             Event::Restore { name, image, inv } => self.restore(alloc, name, image, *inv),
             Event::Install {
@@ -157,11 +167,8 @@ impl Run {
             Event::Stop { name } => Ok(self.stop(name)),
             Event::Start { name } => self.start(name),
             Event::Report { name, what } => self.reported(alloc, name, *what),
-            Event::Time { .. }
-            | Event::Pull { .. }
-            | Event::Cycle { .. }
-            | Event::Ring { .. }
-            | Event::Revive { .. } => unreachable!(),
+            Event::Time { .. } | Event::Pull { .. } | Event::Cycle { .. } | Event::Ring { .. } =>
+                unreachable!(),
         }
     }
 }

@@ -1,12 +1,12 @@
 //! The world of a run.
 
 ghost use Rattle.std.specs.Prelude.{◌≡◌, ◌<◌, ◌≤◌, ◌⊎◌, ◌∷◌, true, IfOk, OnErr, OnOk, IsErrOf, flat_map};
-ghost use Rattle.adr_call.specs.Supported.{IsSupported};
 ghost use Rattle.adr_io.specs.Told.{Adds, AddsFront};
 ghost use Rattle.adr_law_recorded.specs.Typed.{IsTyped};
 ghost use Rattle.adr_model.specs.Convergence.{AreAcknowledged, MayHappen, OwnIsInView, ShowAlike, ShowWhatIsVisible};
 ghost use Rattle.adr_model.specs.Rings.{show_alike, told_of};
-ghost use Rattle.adr_model.specs.Sound.{IsWorldOfRun};
+ghost use Rattle.adr_model.specs.Member.{Each};
+ghost use Rattle.adr_model.specs.Sound.{IsWorldOfRun, WereTold};
 ghost use Rattle.adr_model.specs.Step.{step};
 ghost use Rattle.adr_model.specs.World.{empty_world, shown};
 ghost use Rattle.adr_answers.specs.Line.{line};
@@ -58,7 +58,6 @@ impl World {
     pub fn step<K: Sink>(&mut self, alloc: Global, event: &Event, sink: &mut K) -> Result<(), Fault>
         requires may { MayHappen self.old event.now }
         requires typed { IsTyped event.now }
-        requires supported { IsSupported event.now }
         ensures stepped { OnOk result (self.new ≡ (step self.old event.now).0) }
         ensures told { OnOk result (Adds (K.written sink.old) (K.written sink.new) (flat_map line (step self.old event.now).1)) }
 
@@ -88,6 +87,9 @@ impl World {
         ensures acknowledged { OnOk result (self.new.clean ≡ true → AreAcknowledged self.old event.now (step self.old event.now).1 self.new) }
         ensures own { self.new.clean ≡ true → OwnIsInView self.new }
 
+        // Each time that a controller has of an incarnation was told by a last reply of that one, at that time.
+        ensures told_times { self.new.clean ≡ true → Each (λ r. WereTold self.new r.safe.store.vector r.safe.store.times) self.new.replicas }
+
         // And a cycle with nothing in the way ends with everything, or says that there is more.
         ensures completed { OnOk result (self.new.clean ≡ true → IsCompletedBy self.old event.now (step self.old event.now).1 self.new) }
 
@@ -102,7 +104,6 @@ impl World {
     pub fn count(&mut self, alloc: Global, event: &Event, tally: &mut Tally) -> Result<(), NoMemory>
         requires may { MayHappen self.old event.now }
         requires typed { IsTyped event.now }
-        requires supported { IsSupported event.now }
         ensures stepped { OnOk result (self.new ≡ (step self.old event.now).0) }
         ensures counted { OnOk result (tally.new ≡ counted tally.old (step self.old event.now).1) }
         ensures sound { IsWorldOfRun self.new }

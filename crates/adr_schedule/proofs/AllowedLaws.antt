@@ -3,11 +3,10 @@ use Rattle.std.proofs.Common.{◌≡◌, ℕ, List, [], ◌∷◌, Some}
 use Rattle.adr_values.specs.Assignments.{Given}
 use Rattle.adr_call.specs.declared.event.Event.{Event}
 use Rattle.adr_call.specs.declared.write.Write.TheVariants.{Add, Modify}
-use Rattle.adr_call.specs.declared.call.Call.TheVariants.{Write, Upgrade}
-use Rattle.adr_call.specs.declared.event.Event.TheVariants.{Calls, Ask, Revive}
-use Rattle.adr_call.specs.Supported.{IsSupported}
+use Rattle.adr_call.specs.declared.call.Call.TheVariants.{Write}
+use Rattle.adr_call.specs.declared.event.Event.TheVariants.{Calls}
 use Rattle.adr_schedule.specs.Sets.{rising}
-use Rattle.adr_schedule.specs.Grammar.{Token, given_by, tokens_behind, tokens_in, AreSpelled, HasLine, HaveSpellings, SpelledEventsAreAllowed}
+use Rattle.adr_schedule.specs.Grammar.{Token, given_by, tokens_behind, tokens_in, AreSpelled, HaveSpellings, SpelledEventsAreAllowed}
 use Rattle.adr_schedule.proofs.RisingLemmas.{spelled_rising}
 
 have_spellings : (tokens : List Token) (bytes : List ℕ) → AreSpelled tokens bytes → HaveSpellings tokens
@@ -24,10 +23,3 @@ in_rising_order order e r h = h
 
 pub spelled_allowed : SpelledEventsAreAllowed
 spelled_allowed line e s = (s.0, in_rising_order s.1.0 e s.1.1 (have_spellings (tokens_in s.1.0 e) line s.1.2))
-
--- an event that has a line is one that the program does
-pub lined_supported : (e : Event) → HasLine e → IsSupported e
-lined_supported (Ask name partner max version bound) h = h.1
-lined_supported (Calls name Upgrade) h = h
-lined_supported (Revive name guid image parent text) h = h
-lined_supported e h = tt

@@ -1,5 +1,5 @@
 -- A line that spells an event says that event, and what a line said is spelled there.
-use Rattle.std.proofs.Common.{◌≡◌, ℕ, ◌<◌, ◌≤◌, Bool, true, false, List, [], ◌∷◌, length, Option, Some, None, refl, sym, subst, ◌∙◌, arith}
+use Rattle.std.proofs.Common.{◌≡◌, ℕ, ◌<◌, ◌≤◌, Bool, true, false, List, [], ◌∷◌, length, Option, Some, None, refl, sym, ap, subst, ◌∙◌, inl, inr, arith}
 use Rattle.std.specs.Prelude.{◌==◌, if◌then◌else◌, codes}
 use Rattle.std.specs.Option.{option_map}
 use Rattle.std.specs.Str.{bytes_eq}
@@ -15,13 +15,13 @@ use Rattle.adr_call.specs.declared.call.Call.TheVariants.{Write, Collect, Upgrad
 use Rattle.adr_call.specs.declared.event.Event.TheVariants.{Controller, Time, Calls, Ask, Serve, Deliver, Pull, Cycle, Ring, Revive, Backup, Restore, Install, Snapshot, Rollback, StopAfter, Fail, Stop, Start, Report}
 use Rattle.adr_call.specs.Verbs.{verb_of, verb_of_report, word_of}
 use Rattle.adr_token.specs.Gives.{◌>>=◌}
-use Rattle.adr_token.specs.Words.{unspaced, ended, word_at, name_at}
+use Rattle.adr_token.specs.Words.{unspaced, ended, said, word_at, name_at}
 use Rattle.adr_token.specs.Numbers.{number_at}
 use Rattle.adr_token.specs.Identifiers.{identifier_at}
 use Rattle.adr_token.specs.Classes.{attribute_at, class_at}
 use Rattle.adr_token.specs.Texts.{text_at}
 use Rattle.adr_token.proofs.Lists.{found}
-use Rattle.adr_token.proofs.WordLaws.{if_some}
+use Rattle.adr_token.proofs.WordLaws.{bind_some, if_some}
 use Rattle.adr_call.specs.declared.verb.Verb.{Verb}
 use Rattle.adr_call.specs.declared.verb.Verb.TheVariants as verbs
 use Rattle.adr_schedule.specs.Limits.{plan_limit}
@@ -30,12 +30,12 @@ use Rattle.adr_schedule.specs.Sets.{rising, sets_at}
 use Rattle.adr_schedule.specs.Members.{names_at}
 use Rattle.adr_schedule.proofs.LineNames.{names_were, names_read}
 use Rattle.adr_schedule.specs.Verbs.{verb_said, verbs as all_verbs}
-use Rattle.adr_schedule.specs.Commands.{add_line, ask_line, binding_line, bound_at, by_verb, calls_at, collect_line, controller_line, crash_at, delete_line, event_of, fail_line, install_line, limit_at, link_line, meta_line, modify_line, pull_line, rename_line, report_line, restore_line, ring_line, rounds_at, serve_line, start_line, stop_after, stop_line, time_line, use_line}
-use Rattle.adr_schedule.specs.Grammar.{Word, Name, Number, Identifier, Class, Attribute, Quoted, sets, named, tokens_asked, tokens_behind, IsNext, AreSpelled, IsLimit, AreRounds, AreMembers, Spells, SpelledLinesAreRead, LinesSpellOneEvent, LinesWereSpelled}
+use Rattle.adr_schedule.specs.Commands.{add_line, ask_line, binding_line, bound_at, by_verb, calls_at, collect_line, controller_line, crash_at, delete_line, event_of, fail_line, install_line, limit_at, link_line, meta_line, modify_line, pull_line, rename_line, report_line, restore_line, revive_line, ring_line, rounds_at, serve_line, start_line, stop_after, stop_line, time_line, upgrade_line, use_line, first_version, version_at}
+use Rattle.adr_schedule.specs.Grammar.{Word, Name, Number, Identifier, Class, Attribute, Quoted, sets, named, tokens_asked, tokens_behind, IsNext, AreSpelled, IsLimit, AreRounds, AreMembers, Spells, SpelledLinesAreRead, LinesSpellOneEvent, LinesWereSpelled, version_words, IsVersion}
 use Rattle.adr_schedule.proofs.LineSets.{none_left, sets_read, sets_were}
 use Rattle.adr_schedule.proofs.VerbLaws.{verb_read}
 use Rattle.adr_schedule.proofs.RisingLemmas.{rising_from, unless_some}
-use Rattle.adr_schedule.proofs.TokenLaws.{attribute_next, attribute_read, bound_next, bound_read, calls_next, calls_read, class_next, class_read, crash_next, crash_read, identifier_next, identifier_read, limit_next, limit_read, name_next, name_read, rounds_next, rounds_read, number_next, number_read, text_next, text_read, word_left, word_next}
+use Rattle.adr_schedule.proofs.TokenLaws.{attribute_next, attribute_read, bound_next, bound_read, calls_next, calls_read, class_next, class_read, crash_next, crash_read, identifier_next, identifier_read, limit_next, limit_read, name_next, name_read, rounds_next, rounds_read, number_next, number_read, said_next, text_next, text_read, word_left, word_next, word_read}
 
 -- ---- what was read is spelled
 
@@ -192,15 +192,34 @@ delete_was line rest verb e h =
     each_step P (name_at rest) _ (λ name n. each_step P (identifier_at name.1) _ (λ guid g. at_end P guid.1 (Calls name.0 (Write (Delete guid.0))) (λ last.
     (tt, ([], refl, (rest, verb, (name.1, name_next rest name n, (guid.1, identifier_next name.1 guid g, last)))))))) e h
 
+-- the version of a request, at the end of the line
+abbrev AtEnd : List ℕ → ℕ → Type 0
+AtEnd bytes version = IsVersion version × AreSpelled (version_words version) bytes
+
+version_next : (bytes : List ℕ) (t : ℕ × List ℕ) → version_at bytes ≡ Some t → unspaced t.1 ≡ [] → AtEnd bytes t.0
+unfolding version_at
+version_next bytes t h last = by (length (unspaced bytes) == 0) refl h
+  where
+    by : (b : Bool) → (length (unspaced bytes) == 0) ≡ b → (if b then Some (2, bytes) else first_version bytes) ≡ Some t → AtEnd bytes t.0
+    by true ends told =
+        let same : (2, bytes) ≡ t = cc in
+        subst (λ (x : ℕ × List ℕ). AtEnd bytes x.0) same (inr refl, none_left bytes ends)
+    by false more told =
+        let s = bind_some (said (codes "v1") bytes) (λ word. Some (1, word.1)) t told in
+        let same : (1, s.0.1) ≡ t = cc in
+        let rest : s.0.1 ≡ t.1 = ap (λ (x : ℕ × List ℕ). x.1) same in
+        subst (λ (x : ℕ × List ℕ). AtEnd bytes x.0) same (inl refl, (s.0.1, said_next (codes "v1") bytes s.0 s.1, ap unspaced rest ∙ last))
+
 ask_was : Follows verbs.Ask
 unfolding ask_line tokens_behind
 ask_was line rest verb e h =
     let P = Spells line in
     each_step P (name_at rest) _ (λ name n. each_step P (name_at name.1) _ (λ partner p. each_step P (limit_at partner.1) _ (λ limit l. each_step P (bound_at limit.1) _ (λ bound b.
-    at_end P bound.1 (Ask name.0 partner.0 limit.0 1 bound.0) (λ last.
+    each_step P (version_at bound.1) _ (λ version v. at_end P version.1 (Ask name.0 partner.0 limit.0 version.0 bound.0) (λ last.
     let most = limit_next partner.1 limit l in
     let binds = bound_next limit.1 bound b in
-    ((most.0, refl), ([], refl, (rest, verb, (name.1, name_next rest name n, (partner.1, name_next name.1 partner p, (limit.1, most.1, (binds.0, binds.1, (bound.1, binds.2, last))))))))))))) e h
+    let says = version_next bound.1 version v last in
+    ((most.0, says.0), ([], refl, (rest, verb, (name.1, name_next rest name n, (partner.1, name_next name.1 partner p, (limit.1, most.1, (binds.0, binds.1, (bound.1, binds.2, says.1)))))))))))))) e h
 
 serve_was : Follows verbs.Serve
 unfolding serve_line tokens_behind
@@ -217,6 +236,34 @@ collect_was line rest verb e h =
     let P = Spells line in
     each_step P (name_at rest) _ (λ name n. each_step P (number_at name.1) _ (λ lifetime l. at_end P lifetime.1 (Calls name.0 (Collect lifetime.0)) (λ last.
     (tt, ([], refl, (rest, verb, (name.1, name_next rest name n, (lifetime.1, number_next name.1 lifetime l, last)))))))) e h
+
+upgrade_was : Follows verbs.Upgrade
+unfolding upgrade_line tokens_behind
+upgrade_was line rest verb e h =
+    let P = Spells line in
+    each_step P (name_at rest) _ (λ name n. at_end P name.1 (Calls name.0 Upgrade) (λ last. (tt, ([], refl, (rest, verb, (name.1, name_next rest name n, last)))))) e h
+
+revive_was : Follows verbs.Revive
+unfolding revive_line tokens_behind
+revive_was line rest verb e h =
+    let P = Spells line in
+    each_step P (name_at rest) _ (λ name n. each_step P (identifier_at name.1) _ (λ guid g. each_step P (name_at guid.1) _ (λ image i. each_step P (identifier_at image.1) _ (λ parent p.
+    each_step P (text_at (unspaced parent.1)) _ (λ text t. at_end P text.1 (Revive name.0 guid.0 image.0 parent.0 text.0) (λ last. (
+      tt,
+      (
+        [],
+        refl,
+        (
+          rest,
+          verb,
+          (
+            name.1,
+            name_next rest name n,
+            (guid.1, identifier_next name.1 guid g, (image.1, name_next guid.1 image i, (parent.1, identifier_next image.1 parent p, (text.1, text_next parent.1 text t, last)))),
+          ),
+        ),
+      ),
+    ))))))) e h
 
 restore_was : Follows verbs.Restore
 unfolding restore_line tokens_behind
@@ -300,8 +347,8 @@ verb_was verbs.Pull line rest verb e h = pull_was (Spells line) Pull rest (λ na
 verb_was verbs.Cycle line rest verb e h = pull_was (Spells line) Cycle rest (λ name source max most p. (most, ([], refl, (rest, verb, p)))) e h
 verb_was verbs.Ring line rest verb e h = ring_was line rest verb e h
 verb_was verbs.Collect line rest verb e h = collect_was line rest verb e h
-verb_was verbs.Upgrade line rest verb e h = absurd (cc)
-verb_was verbs.Revive line rest verb e h = absurd (cc)
+verb_was verbs.Upgrade line rest verb e h = upgrade_was line rest verb e h
+verb_was verbs.Revive line rest verb e h = revive_was line rest verb e h
 verb_was verbs.Backup line rest verb e h = binding_was (Spells line) Backup rest (λ name bound b. (tt, ([], refl, (rest, verb, b)))) e h
 verb_was verbs.Restore line rest verb e h = restore_was line rest verb e h
 verb_was verbs.Install line rest verb e h = install_was line rest verb e h
@@ -397,18 +444,35 @@ delete_again : (bytes name guid : List ℕ) → AreSpelled (Name name ∷ Identi
 unfolding delete_line
 delete_again bytes name guid h = rw (name_read name bytes h.0 h.1, identifier_read guid h.0 h.2.0 h.2.1, h.2.2) refl
 
-ask_again : (bytes name partner bound : List ℕ) (max version : ℕ) → IsLimit max × (version ≡ 1) → AreSpelled (Name name ∷ Name partner ∷ Number max ∷ Word (codes "as") ∷ Name bound ∷ []) bytes
+-- a version is read to the end of the line
+abbrev IsReadWhole : List ℕ → ℕ → Type 0
+IsReadWhole bytes version = (rest : List ℕ) × (version_at bytes ≡ Some (version, rest)) × (unspaced rest ≡ [])
+
+first_read : (bytes : List ℕ) → AreSpelled (Word (codes "v1") ∷ []) bytes → IsReadWhole bytes 1
+unfolding version_at said
+first_read bytes w = (w.0, rw (word_read (codes "v1") bytes w.0 refl (omega arith) w.1, word_left (codes "v1") bytes w.0 (omega arith) w.1) refl, w.2)
+
+second_read : (bytes : List ℕ) → unspaced bytes ≡ [] → IsReadWhole bytes 2
+unfolding version_at
+second_read bytes none = (bytes, rw none refl, none)
+
+version_read : (bytes : List ℕ) (version : ℕ) → IsVersion version → AreSpelled (version_words version) bytes → IsReadWhole bytes version
+version_read bytes version (inl e) h = subst (IsReadWhole bytes) (sym e) (first_read bytes (subst (λ (n : ℕ). AreSpelled (version_words n) bytes) e h))
+version_read bytes version (inr e) h = subst (IsReadWhole bytes) (sym e) (second_read bytes (subst (λ (n : ℕ). AreSpelled (version_words n) bytes) e h))
+
+ask_again : (bytes name partner bound : List ℕ) (max version : ℕ) → IsLimit max × IsVersion version → AreSpelled (Name name ∷ Name partner ∷ Number max ∷ Word (codes "as") ∷ Name bound ∷ version_words version) bytes
     → ask_line bytes ≡ Some (Ask name partner max version bound)
 unfolding ask_line
 ask_again bytes name partner bound max version l h =
     let m = h.2.2 in
+    let whole = version_read m.2.2.0 version l.1 m.2.2.2 in
     rw (
       name_read name bytes h.0 h.1,
       name_read partner h.0 h.2.0 h.2.1,
       limit_read max h.2.0 m.0 l.0 m.1,
-      l.1,
       bound_read bound m.0 m.2.0 m.2.2.0 m.2.1 m.2.2.1,
-      m.2.2.2,
+      whole.1,
+      whole.2,
     ) refl
 
 serve_again : (bytes name request bound : List ℕ) → AreSpelled (Name name ∷ Name request ∷ Word (codes "as") ∷ Name bound ∷ []) bytes → serve_line bytes ≡ Some (Serve name request bound)
@@ -424,6 +488,25 @@ binding_again event bytes name bound h = rw (name_read name bytes h.0 h.1, bound
 collect_again : (bytes name : List ℕ) (lifetime : ℕ) → AreSpelled (Name name ∷ Number lifetime ∷ []) bytes → collect_line bytes ≡ Some (Calls name (Collect lifetime))
 unfolding collect_line
 collect_again bytes name lifetime h = rw (name_read name bytes h.0 h.1, number_read lifetime h.0 h.2.0 h.2.1, h.2.2) refl
+
+upgrade_again : (bytes name : List ℕ) → AreSpelled (Name name ∷ []) bytes → upgrade_line bytes ≡ Some (Calls name Upgrade)
+unfolding upgrade_line
+upgrade_again bytes name h = rw (name_read name bytes h.0 h.1, h.2) refl
+
+revive_again : (bytes name guid image parent text : List ℕ) → AreSpelled (Name name ∷ Identifier guid ∷ Name image ∷ Identifier parent ∷ Quoted text ∷ []) bytes
+    → revive_line bytes ≡ Some (Revive name guid image parent text)
+unfolding revive_line
+revive_again bytes name guid image parent text h =
+    let i = h.2.2 in
+    let p = i.2 in
+    rw (
+      name_read name bytes h.0 h.1,
+      identifier_read guid h.0 h.2.0 h.2.1,
+      name_read image h.2.0 i.0 i.1,
+      identifier_read parent i.0 p.0 p.1,
+      text_read text p.0 p.2.0 p.2.1,
+      p.2.2,
+    ) refl
 
 restore_again : (bytes name image inv : List ℕ) → AreSpelled (Name name ∷ Name image ∷ Identifier inv ∷ []) bytes → restore_line bytes ≡ Some (Restore name image inv)
 unfolding restore_line
@@ -487,8 +570,8 @@ behind_read line (Pull name source max) h = pull_again Pull h.1.2.0 name source 
 behind_read line (Cycle name source max) h = pull_again Cycle h.1.2.0 name source max h.0 h.1.2.2
 behind_read line (Ring name others rounds max) h = ring_again h.1.2.0 name others rounds max h.0 h.1.2.2
 behind_read line (Calls name (Collect lifetime)) h = collect_again h.1.2.0 name lifetime h.1.2.2
-behind_read line (Calls name Upgrade) h = absurd h.0
-behind_read line (Revive name guid image parent text) h = absurd h.0
+behind_read line (Calls name Upgrade) h = upgrade_again h.1.2.0 name h.1.2.2
+behind_read line (Revive name guid image parent text) h = revive_again h.1.2.0 name guid image parent text h.1.2.2
 behind_read line (Backup name bound) h = binding_again Backup h.1.2.0 name bound h.1.2.2
 behind_read line (Restore name image inv) h = restore_again h.1.2.0 name image inv h.1.2.2
 behind_read line (Install name dsa image inv) h = install_again h.1.2.0 name dsa image inv h.1.2.2

@@ -1,11 +1,9 @@
 -- A schedule is read as its events, and what was read is a schedule; a text that is refused has the fault.
 use Rattle.std.proofs.Common.{◌≡◌, ℕ, ◌+◌, ◌≤◌, Bool, true, false, not, cond, List, [], ◌∷◌, ◌++◌, length, Option, Some, None, Result, Ok, Err, refl, sym, ap, subst, inl, inr}
-use Rattle.std.specs.Prelude.{◌||◌, nat_lt, nat_le, All}
+use Rattle.std.specs.Prelude.{◌||◌, nat_lt, nat_le}
 use Rattle.std.specs.Bool.{then_some}
 use Rattle.std.specs.Str.{is_utf8}
 use Rattle.std.proofs.lemmas.Bool.{le-ltb, lt-ltb, ltb-false, ltb-true}
-use Rattle.std.proofs.lemmas.List.Elements.{All-cons, All-nil}
-use Rattle.adr_call.specs.Supported.{IsSupported}
 use Rattle.adr_call.specs.declared.event.Event.{Event}
 use Rattle.adr_call.specs.declared.event.Event.TheVariants.{Controller, Time, Calls, Ask, Serve, Deliver, Pull, Cycle, Ring, Revive, Backup, Restore, Install, Snapshot, Rollback, StopAfter, Fail, Stop, Start, Report}
 use Rattle.adr_schedule.specs.declared.fault.Cause.{Cause}
@@ -18,8 +16,8 @@ use Rattle.adr_schedule.specs.Grammar.{Spells}
 use Rattle.adr_values.specs.First.{first_of}
 use Rattle.adr_schedule.specs.Seen.{Seen, nothing_seen, cause_after, if_bound, if_full, if_given, if_inv_given, is_any_unbound, is_bound, seen_after, unless_all_bound, unless_bound, IsFollowing}
 use Rattle.adr_schedule.specs.Events.{bad, before, events_from, events_of, followed, line_after, on_line, unless}
-use Rattle.adr_schedule.specs.Schedules.{FaultyTextsAreRefused, IsCause, IsFault, IsFirstFault, LinesSay, ReadTextsAreSchedules, RefusedTextsHaveTheFault, Says, SchedulesAreRead, SchedulesAreSupported}
-use Rattle.adr_schedule.proofs.AllowedLaws.{lined_supported, spelled_allowed}
+use Rattle.adr_schedule.specs.Schedules.{FaultyTextsAreRefused, IsCause, IsFault, IsFirstFault, LinesSay, ReadTextsAreSchedules, RefusedTextsHaveTheFault, Says, SchedulesAreRead}
+use Rattle.adr_schedule.proofs.AllowedLaws.{spelled_allowed}
 use Rattle.adr_schedule.proofs.EventLaws.{lines_read, lines_spelled}
 
 -- ---- what a line said
@@ -100,17 +98,6 @@ lines_follow seen (line ∷ lines) es (inr said) =
 -- the events of a text may follow one another
 pub text_follows : (text : List ℕ) (es : List Event) → events_of text ≡ Ok es → IsFollowing nothing_seen es
 text_follows text es is = lines_follow nothing_seen (lines_of text) es (read_texts text es is).1
-
--- the program does all that lines say
-lines_supported : (seen : Seen) (lines : List (List ℕ)) (es : List Event) → LinesSay seen lines es → All IsSupported es
-lines_supported seen [] es none = subst (All IsSupported) (sym none) (All-nil IsSupported)
-lines_supported seen (line ∷ lines) es (inl passed) = lines_supported seen lines es passed.1
-lines_supported seen (line ∷ lines) es (inr said) =
-    subst (All IsSupported) (sym said.4)
-    (All-cons IsSupported said.0 said.1 (lined_supported said.0 said.2.spells.0) (lines_supported (seen_after seen said.0) lines said.1 said.3))
-
-pub schedules_supported : SchedulesAreSupported
-schedules_supported text es h = lines_supported nothing_seen (lines_of text) es h.1
 
 -- ---- what lines say is read
 

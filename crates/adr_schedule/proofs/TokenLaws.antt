@@ -197,7 +197,7 @@ pub rounds_next : (bytes : List ℕ) (t : ℕ × List ℕ) → rounds_at bytes �
 rounds_next = between_next 1 rounds_limit
 
 -- a name behind `as`
-said_next : (what bytes : List ℕ) (t : Unit {0} × List ℕ) → said what bytes ≡ Some t → IsNext (Word what) bytes t.1
+pub said_next : (what bytes : List ℕ) (t : Unit {0} × List ℕ) → said what bytes ≡ Some t → IsNext (Word what) bytes t.1
 unfolding said
 said_next what bytes t h =
     let s = bind_some (word_at bytes) (λ word. cond (bytes_eq word.0 what) (Some (tt, word.1)) None) t h in

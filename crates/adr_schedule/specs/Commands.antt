@@ -8,8 +8,8 @@ use Rattle.adr_call.specs.declared.write.Write.TheVariants.{Add, Modify, Rename,
 use Rattle.adr_call.specs.declared.report.Report.{Report as Asked}
 use Rattle.adr_call.specs.declared.report.Report.TheVariants as reports
 use Rattle.adr_call.specs.declared.event.Event.{Event}
-use Rattle.adr_call.specs.declared.call.Call.TheVariants.{Write, Collect}
-use Rattle.adr_call.specs.declared.event.Event.TheVariants.{Controller, Time, Calls, Ask, Serve, Deliver, Pull, Cycle, Ring, Backup, Restore, Install, Snapshot, Rollback, StopAfter, Fail, Stop, Start, Report}
+use Rattle.adr_call.specs.declared.call.Call.TheVariants.{Write, Collect, Upgrade}
+use Rattle.adr_call.specs.declared.event.Event.TheVariants.{Controller, Time, Calls, Ask, Serve, Deliver, Pull, Cycle, Ring, Revive, Backup, Restore, Install, Snapshot, Rollback, StopAfter, Fail, Stop, Start, Report}
 use Rattle.adr_schedule.specs.Limits.{ask_limit, plan_limit, rounds_limit}
 use Rattle.adr_schedule.specs.Members.{names_at}
 use Rattle.adr_token.specs.Gives.{Reading, ◌>>=◌}
@@ -157,14 +157,23 @@ delete_line bytes = do
   guid ← identifier_at name.1
   ended guid.1 (Calls name.0 (Write (Delete guid.0)))
 
--- the request is of version 1
+-- the version of a request: `v1` says the first, and where nothing is left it is the second
+abbrev pub first_version : List ℕ → Reading ℕ
+first_version bytes = do
+  word ← said (codes "v1") bytes
+  Some (1, word.1)
+
+unfoldable pub version_at : List ℕ → Reading ℕ
+version_at bytes = if length (unspaced bytes) == 0 then Some (2, bytes) else first_version bytes
+
 unfoldable pub ask_line : List ℕ → Option Event
 ask_line bytes = do
   name ← name_at bytes
   partner ← name_at name.1
   limit ← limit_at partner.1
   bound ← bound_at limit.1
-  ended bound.1 (Ask name.0 partner.0 limit.0 1 bound.0)
+  version ← version_at bound.1
+  ended version.1 (Ask name.0 partner.0 limit.0 version.0 bound.0)
 
 unfoldable pub serve_line : List ℕ → Option Event
 serve_line bytes = do
@@ -178,6 +187,20 @@ collect_line bytes = do
   name ← name_at bytes
   lifetime ← number_at name.1
   ended lifetime.1 (Calls name.0 (Collect lifetime.0))
+
+unfoldable pub upgrade_line : List ℕ → Option Event
+upgrade_line bytes = do
+  name ← name_at bytes
+  ended name.1 (Calls name.0 Upgrade)
+
+unfoldable pub revive_line : List ℕ → Option Event
+revive_line bytes = do
+  name ← name_at bytes
+  guid ← identifier_at name.1
+  image ← name_at guid.1
+  parent ← identifier_at image.1
+  text ← text_at (unspaced parent.1)
+  ended text.1 (Revive name.0 guid.0 image.0 parent.0 text.0)
 
 unfoldable pub restore_line : List ℕ → Option Event
 restore_line bytes = do
@@ -218,7 +241,7 @@ fail_line bytes = do
   calls ← calls_at name.1
   ended calls.1 (Fail name.0 calls.0)
 
--- what a line says behind its verb; no line says that a controller changes over, or that an object comes again
+-- what a line says behind its verb
 abbrev pub by_verb : Verb → List ℕ → Option Event
 by_verb verbs.Controller rest = controller_line rest
 by_verb verbs.Time rest = time_line rest
@@ -235,8 +258,8 @@ by_verb verbs.Pull rest = pull_line Pull rest
 by_verb verbs.Cycle rest = pull_line Cycle rest
 by_verb verbs.Ring rest = ring_line rest
 by_verb verbs.Collect rest = collect_line rest
-by_verb verbs.Upgrade rest = None
-by_verb verbs.Revive rest = None
+by_verb verbs.Upgrade rest = upgrade_line rest
+by_verb verbs.Revive rest = revive_line rest
 by_verb verbs.Backup rest = binding_line Backup rest
 by_verb verbs.Restore rest = restore_line rest
 by_verb verbs.Install rest = install_line rest

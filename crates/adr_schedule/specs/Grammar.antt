@@ -1,5 +1,5 @@
 -- The grammar of a line: its tokens, and how each of them may be spelled.
-use Rattle.std.specs.Prelude.{◌≡◌, ℕ, ◌<◌, ◌≤◌, ◌^◌, List, [], ◌∷◌, map, length, true, Some, codes}
+use Rattle.std.specs.Prelude.{◌≡◌, ◌⊎◌, ℕ, ◌<◌, ◌≤◌, ◌^◌, ◌==◌, if◌then◌else◌, List, [], ◌∷◌, map, length, true, Some, codes}
 use Rattle.std.specs.Fmt.{decimal}
 use Rattle.std.specs.List.Sorted.{IsStrictlySortedBy}
 use Rattle.std.specs.Ordering.{nat_cmp}
@@ -80,17 +80,22 @@ tokens_asked reports.Vector = []
 tokens_asked reports.Marks = []
 tokens_asked (reports.Meta guid) = Identifier guid ∷ []
 
--- what stands behind the verb in the line of an event, its sets in this order; nothing where it has no line
+-- the word of a request's version; the second has none
+abbrev pub version_words : ℕ → List Token
+version_words version = if version == 1 then Word (codes "v1") ∷ [] else []
+
+-- what stands behind the verb in the line of an event, its sets in this order
 unfoldable pub tokens_behind : List Given → Event → List Token
 tokens_behind order (Controller name dsa inv) = Name name ∷ Identifier dsa ∷ Identifier inv ∷ []
 tokens_behind order (Time now) = Number now ∷ []
 tokens_behind order (Calls name what) = Name name ∷ tokens_called order what
-tokens_behind order (Ask name partner max version bound) = Name name ∷ Name partner ∷ Number max ∷ Word (codes "as") ∷ Name bound ∷ []
+tokens_behind order (Ask name partner max version bound) = Name name ∷ Name partner ∷ Number max ∷ Word (codes "as") ∷ Name bound ∷ version_words version
 tokens_behind order (Serve name request bound) = Name name ∷ Name request ∷ Word (codes "as") ∷ Name bound ∷ []
 tokens_behind order (Deliver name reply) = Name name ∷ Name reply ∷ []
 tokens_behind order (Pull name source max) = Name name ∷ Name source ∷ Number max ∷ []
 tokens_behind order (Cycle name source max) = Name name ∷ Name source ∷ Number max ∷ []
 tokens_behind order (Ring name others rounds max) = Number rounds ∷ Number max ∷ Name name ∷ named others
+tokens_behind order (Revive name guid image parent text) = Name name ∷ Identifier guid ∷ Name image ∷ Identifier parent ∷ Quoted text ∷ []
 tokens_behind order (Backup name bound) = Name name ∷ Word (codes "as") ∷ Name bound ∷ []
 tokens_behind order (Restore name image inv) = Name name ∷ Name image ∷ Identifier inv ∷ []
 tokens_behind order (Install name dsa image inv) = Name name ∷ Identifier dsa ∷ Name image ∷ Identifier inv ∷ []
@@ -101,7 +106,6 @@ tokens_behind order (Fail name calls) = Name name ∷ Word (codes "after") ∷ N
 tokens_behind order (Stop name) = Name name ∷ []
 tokens_behind order (Start name) = Name name ∷ []
 tokens_behind order (Report name what) = Name name ∷ tokens_asked what
-tokens_behind order event = []
 
 -- the tokens of the line of an event, its sets in this order
 abbrev pub tokens_in : List Given → Event → List Token
@@ -135,6 +139,10 @@ AreSpelled (token ∷ tokens) bytes = (rest : List ℕ) × IsNext token bytes re
 abbrev pub IsLimit : ℕ → Type 0
 IsLimit limit = (1 ≤ limit) × (limit ≤ ask_limit)
 
+-- the versions of requests
+abbrev pub IsVersion : ℕ → Type 0
+IsVersion version = (version ≡ 1) ⊎ (version ≡ 2)
+
 -- how many rounds a ring has, and its names: two or more, at most as many as there may be controllers, none twice
 abbrev pub AreRounds : ℕ → Type 0
 AreRounds rounds = (1 ≤ rounds) × (rounds ≤ rounds_limit)
@@ -152,25 +160,25 @@ AreGiven (Add guid class parent text values) = AreRising values
 AreGiven (Modify guid values) = AreRising values × (0 < length values)
 AreGiven _ = Unit {0}
 
--- a call that has a line
+-- what the tokens of a call don't say
 abbrev pub HasCallLine : Call → Type 0
 HasCallLine (Write what) = AreGiven what
 HasCallLine (Collect lifetime) = Unit {0}
-HasCallLine Upgrade = ⊥
+HasCallLine Upgrade = Unit {0}
 
--- what the tokens of an event don't say: how many items are asked for and that the request is of version 1, how many calls a plan lets pass, and how
--- values are given; some events have no line
+-- what the tokens of an event don't say: how many items are asked for and in which versions, how many calls a plan lets pass, and how
+-- values are given
 abbrev pub HasLine : Event → Type 0
 HasLine (Controller name dsa inv) = Unit {0}
 HasLine (Time now) = Unit {0}
 HasLine (Calls name what) = HasCallLine what
-HasLine (Ask name partner max version bound) = IsLimit max × (version ≡ 1)
+HasLine (Ask name partner max version bound) = IsLimit max × IsVersion version
 HasLine (Serve name request bound) = Unit {0}
 HasLine (Deliver name reply) = Unit {0}
 HasLine (Pull name source max) = IsLimit max
 HasLine (Cycle name source max) = IsLimit max
 HasLine (Ring name others rounds max) = AreRounds rounds × IsLimit max × AreMembers name others
-HasLine (Revive name guid image parent text) = ⊥
+HasLine (Revive name guid image parent text) = Unit {0}
 HasLine (Backup name bound) = Unit {0}
 HasLine (Restore name image inv) = Unit {0}
 HasLine (Install name dsa image inv) = Unit {0}

@@ -1,7 +1,6 @@
 -- The grammar of a text: its lines spell its events one after the other, or one of them is the first bad line.
-use Rattle.std.specs.Prelude.{◌≡◌, ◌⊎◌, ◌≤◌, ◌<◌, ◌+◌, List, [], ◌∷◌, ℕ, length, All, true, false, Some, None, Ok, Err}
+use Rattle.std.specs.Prelude.{◌≡◌, ◌⊎◌, ◌≤◌, ◌<◌, ◌+◌, List, [], ◌∷◌, ℕ, length, true, false, Some, None, Ok, Err}
 use Rattle.std.specs.Str.{is_utf8}
-use Rattle.adr_call.specs.Supported.{IsSupported}
 use Rattle.adr_call.specs.declared.event.Event.{Event}
 use Rattle.adr_schedule.specs.declared.fault.Cause.{Cause}
 use Rattle.adr_schedule.specs.declared.fault.Cause.TheVariants.{NotUtf8, NoCommand, TooLong}
@@ -56,10 +55,6 @@ SchedulesAreRead = (text : List ℕ) (events : List Event) → IsSchedule text e
 
 abbrev pub ReadTextsAreSchedules : Type 0
 ReadTextsAreSchedules = (text : List ℕ) (events : List Event) → events_of text ≡ Ok events → IsSchedule text events
-
--- the program does all that a schedule says
-abbrev pub SchedulesAreSupported : Type 0
-SchedulesAreSupported = (text : List ℕ) (events : List Event) → IsSchedule text events → All IsSupported events
 
 abbrev pub RefusedTextsHaveTheFault : Type 0
 RefusedTextsHaveTheFault = (text : List ℕ) (fault : ScheduleFault) → events_of text ≡ Err fault → IsFault text fault

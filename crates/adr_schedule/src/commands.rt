@@ -3,7 +3,7 @@
 ghost use Rattle.std.specs.Prelude.{◌≡◌, ◌==◌, ◌<◌, Some, None};
 ghost use Rattle.adr_token.specs.Gives.{Gives, Answers};
 ghost use Rattle.adr_token.specs.Words.{ended};
-ghost use Rattle.adr_schedule.specs.Commands.{add_line, ask_line, binding_line, bound_at, by_verb, calls_at, collect_line, controller_line, crash_at, delete_line, event_of, fail_line, install_line, is_passed, limit_at, link_line, meta_line, modify_line, number_between, pull_line, rename_line, report_line, restore_line, ring_line, serve_line, start_line, stop_after, stop_line, time_line, use_line};
+ghost use Rattle.adr_schedule.specs.Commands.{add_line, ask_line, binding_line, bound_at, by_verb, calls_at, collect_line, controller_line, crash_at, delete_line, event_of, fail_line, install_line, is_passed, limit_at, link_line, meta_line, modify_line, number_between, pull_line, rename_line, report_line, restore_line, revive_line, ring_line, serve_line, start_line, stop_after, stop_line, time_line, upgrade_line, use_line, version_at};
 ghost use Rattle.adr_schedule.specs.Shared.{copied, linked, pulled, used};
 
 use crate::crashes::crash_of;
@@ -260,6 +260,18 @@ fn delete(alloc: Global, line: &mut Line<'_>) -> Result<Event, Stop>
     )
 }
 
+/// The version of a request: `v1` says the first, and where nothing is left it is the second.
+#[tactic(auto, unfolding(crate::specs::Commands::version_at))]
+fn version(line: &mut Line<'_>) -> Result<u16, Stop>
+    ensures { Gives result line.new (version_at line.old) }
+{
+    if line.is_ended() {
+        return Ok(2);
+    }
+    line.said(b"v1")?;
+    Ok(1)
+}
+
 #[tactic(auto, unfolding(crate::specs::Commands::ask_line))]
 fn ask(alloc: Global, line: &mut Line<'_>) -> Result<Event, Stop>
     ensures { Answers result (ask_line line.old) }
@@ -268,13 +280,14 @@ fn ask(alloc: Global, line: &mut Line<'_>) -> Result<Event, Stop>
     let partner = line.name(alloc)?;
     let max = limit(line)?;
     let bound = bound(alloc, line)?;
+    let version = version(line)?;
     ended(
         line,
         Event::Ask {
             name,
             partner,
             max,
-            version: 1,
+            version,
             bound,
         },
     )
@@ -308,6 +321,42 @@ fn collect(alloc: Global, line: &mut Line<'_>) -> Result<Event, Stop>
         Event::Calls {
             name,
             what: Call::Collect { lifetime },
+        },
+    )
+}
+
+#[tactic(auto, unfolding(crate::specs::Commands::upgrade_line))]
+fn upgrade(alloc: Global, line: &mut Line<'_>) -> Result<Event, Stop>
+    ensures { Answers result (upgrade_line line.old) }
+{
+    let name = line.name(alloc)?;
+    ended(
+        line,
+        Event::Calls {
+            name,
+            what: Call::Upgrade,
+        },
+    )
+}
+
+#[tactic(auto, unfolding(crate::specs::Commands::revive_line))]
+fn revive(alloc: Global, line: &mut Line<'_>) -> Result<Event, Stop>
+    ensures { Answers result (revive_line line.old) }
+{
+    let name = line.name(alloc)?;
+    let guid = line.identifier()?;
+    let image = line.name(alloc)?;
+    let parent = line.identifier()?;
+    line.skip_spaces();
+    let text = line.text(alloc)?;
+    ended(
+        line,
+        Event::Revive {
+            name,
+            guid,
+            image,
+            parent,
+            text,
         },
     )
 }
@@ -421,7 +470,8 @@ fn by_verb(alloc: Global, verb: Verb, line: &mut Line<'_>) -> Result<Event, Stop
         Verb::Cycle => pulled(alloc, PullVerb::Cycle, line),
         Verb::Ring => ring(alloc, line),
         Verb::Collect => collect(alloc, line),
-        Verb::Upgrade | Verb::Revive => Err(Failure::Refused(Bad)),
+        Verb::Upgrade => upgrade(alloc, line),
+        Verb::Revive => revive(alloc, line),
         Verb::Backup => copied(alloc, CopyVerb::Backup, line),
         Verb::Restore => restore(alloc, line),
         Verb::Install => install(alloc, line),

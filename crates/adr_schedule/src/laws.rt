@@ -1,7 +1,7 @@
 //! The laws of lines and of texts.
 
 ghost use Rattle.adr_schedule.specs.Grammar.{SpelledLinesAreRead, LinesWereSpelled, LinesSpellOneEvent, SpelledEventsAreAllowed};
-ghost use Rattle.adr_schedule.specs.Schedules.{SchedulesAreRead, ReadTextsAreSchedules, SchedulesAreSupported, FaultyTextsAreRefused, RefusedTextsHaveTheFault};
+ghost use Rattle.adr_schedule.specs.Schedules.{SchedulesAreRead, ReadTextsAreSchedules, FaultyTextsAreRefused, RefusedTextsHaveTheFault};
 
 /// A line is read as an event exactly where the grammar spells that event so.
 pub fn lines_read_back()
@@ -15,7 +15,6 @@ pub fn lines_read_back()
 pub fn schedules_read_back()
     ensures again { SchedulesAreRead }
     ensures only { ReadTextsAreSchedules }
-    ensures supported { SchedulesAreSupported }
 {}
 
 /// A text is refused with a fault exactly where that is the first bad line and its first cause.

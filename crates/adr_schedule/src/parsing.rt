@@ -2,7 +2,6 @@
 
 ghost use Rattle.std.specs.Prelude.{◌≡◌, ◌≤◌, [], Ok, Err, IfOk, IfErr, OnOk, ◌++◌, All, length};
 ghost use Rattle.std.specs.Option.{option_to_list};
-ghost use Rattle.adr_call.specs.Supported.{IsSupported};
 ghost use Rattle.adr_schedule.specs.Faults.{Refuses};
 ghost use Rattle.adr_schedule.specs.Limits.{text_limit};
 ghost use Rattle.adr_schedule.specs.Seen.{nothing_seen, IsFollowing};
@@ -136,7 +135,6 @@ fn read_text(
 pub fn parse(alloc: Global, text: &[u8]) -> Result<Vec<Event>, Failure<ScheduleFault>>
     ensures ok { IfOk result (λ events. events_of text.now ≡ Ok events.items) }
     ensures follows { IfOk result (λ events. IsFollowing nothing_seen events.items) }
-    ensures supported { IfOk result (λ events. All IsSupported events.items) }
     ensures bad { IfErr result (λ failure. Refuses failure (events_of text.now)) }
 {
     let mut events = Vec::new(alloc);

@@ -33,8 +33,8 @@ pub enum CopyVerb {
     Snapshot,
 }
 
-/// The verbs that a text knows: those of the events that have a line.
-const VERBS: [Verb; 27] = [
+/// The verbs that a text knows.
+const VERBS: [Verb; 29] = [
     Verb::Controller,
     Verb::Time,
     Verb::Add,
@@ -50,6 +50,8 @@ const VERBS: [Verb; 27] = [
     Verb::Cycle,
     Verb::Ring,
     Verb::Collect,
+    Verb::Upgrade,
+    Verb::Revive,
     Verb::Backup,
     Verb::Restore,
     Verb::Install,

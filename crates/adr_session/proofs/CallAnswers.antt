@@ -65,12 +65,12 @@ replies_led f (Err (serves.TooOld inv purged has)) = refl
 module _ {K V : Type 0} (k : Ghosts K) (leaves : LeavesLaw k) (only_now : OnlyNowLaw k) (old new : Running K) (how : Option Hindrance) (order : IsInOrder k old) (up : IsSome old.state)
     (h : Option Hindrance) (r x : Result V ServeFault) (ended : how ≡ h) (is : r ≡ x) where
   -- a request
-  pub serves_makes : (items : V → List ℕ) (request : Request) → Calls k (served_in request 0) old new how
-      → ((f : Found State) → Stands k f old → Tells items (served_told (serve f.state request 0)) log_full h x) → Makes items k (λ f. replies f (serve f.state request 0)) old new r
-  serves_makes items request calls tells =
-      makes items k leaves only_now (served_in request 0) (λ f. replies f (serve f.state request 0)) old new how r order up calls (λ f stands.
-      let said = served_told (serve f.state request 0) in
-      (said, log_full, replies_led f (serve f.state request 0), tells_at items said log_full how h r x ended is (tells f stands)))
+  pub serves_makes : (items : V → List ℕ) (request : Request) (now : ℕ) → Calls k (served_in request now) old new how
+      → ((f : Found State) → Stands k f old → Tells items (served_told (serve f.state request now)) log_full h x) → Makes items k (λ f. replies f (serve f.state request now)) old new r
+  serves_makes items request now calls tells =
+      makes items k leaves only_now (served_in request now) (λ f. replies f (serve f.state request now)) old new how r order up calls (λ f stands.
+      let said = served_told (serve f.state request now) in
+      (said, log_full, replies_led f (serve f.state request now), tells_at items said log_full how h r x ended is (tells f stands)))
 
   -- what a client calls for
   pub call_makes : (items : V → List ℕ) (call : Call) (now : ℕ) → Calls k (called_in call now) old new how

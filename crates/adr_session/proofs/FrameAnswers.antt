@@ -1,6 +1,7 @@
 -- What a frame comes to, by what it says.
 use Rattle.std.proofs.Common.{◌≡◌, inl, inr, ◌∙◌, sym, ap, subst, refl, ℕ, List, Option, Some, None, IfSome, IsSome, Result, Ok, Err, arith}
 use Rattle.std.specs.Prelude.{IfOk}
+use Rattle.adr_model.specs.Serve.{Request, serve}
 use Rattle.adr_model.specs.Store.{State}
 use Rattle.adr_law_journal.specs.Areas.{Found}
 use Rattle.adr_law_journal.specs.Kept.{FindsEither}
@@ -11,7 +12,7 @@ use Rattle.adr_session.specs.declared.ending.ServeFault.{ServeFault}
 use Rattle.adr_session.specs.declared.ending.ServeFault.TheVariants as faults
 use Rattle.adr_outside.specs.Given.{Takes}
 use Rattle.adr_session.specs.Lines.{call_said}
-use Rattle.adr_session.specs.Talk.{Answered, Gives, Said, Reaction, Sends, acts, reacts}
+use Rattle.adr_session.specs.Talk.{Answered, Asks, Gives, Said, Reaction, Sends, acts, reacts, replies}
 use Rattle.adr_law_controller.specs.Keeping.{Stands}
 use Rattle.adr_session.specs.Told.{FindsOneOf, ReactsSo}
 use Rattle.adr_session.specs.Made.{MadeSo, Makes, Reacts}
@@ -145,3 +146,9 @@ pub line_sent : (body : List ℕ) (now : ℕ) (before after : Option (List ℕ))
 line_sent body now before after taken f moments is =
     let t = at_told before (λ moments. Takes now moments after) moments is taken in
     (t.0, ap (λ (moments : List ℕ). reacts f moments (Some (Gives body))) t.1, t.2)
+
+-- so does a request
+pub request_sent : (q : Request) (now : ℕ) (before after : Option (List ℕ)) → IfSome before (λ moments. Takes now moments after) → IsSent (λ f. replies f (serve f.state q now)) (Some (Asks q)) before after
+request_sent q now before after taken f moments is =
+    let t = at_told before (λ moments. Takes now moments after) moments is taken in
+    (t.0, ap (λ (moments : List ℕ). reacts f moments (Some (Asks q))) t.1, t.2)

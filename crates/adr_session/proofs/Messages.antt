@@ -15,7 +15,7 @@ use Rattle.adr_session.specs.declared.ending.End.TheVariants as ended
 use Rattle.adr_session.specs.declared.ending.ServeFault.{ServeFault}
 use Rattle.adr_session.specs.declared.ending.ServeFault.TheVariants as faults
 use Rattle.adr_session.specs.Talk.{Point, Stops, Reaction, Sends, Leaves, turn, takes, does, reaction}
-use Rattle.adr_session.specs.Told.{FindsNear, FindsOneOf, IsTimed, IsTimedBehind, IsTimedNear, ReactsSo, ReactsTo, SaysLine, StandsNear, TakesTurn}
+use Rattle.adr_session.specs.Told.{FindsNear, FindsOneOf, IsTimed, IsTimedBehind, IsTimedNear, ReactsSo, ReactsTo, TakesAMoment, StandsNear, TakesTurn}
 use Rattle.adr_session.specs.Turns.{sent}
 
 -- the message that comes next is what a frame comes to
@@ -133,7 +133,7 @@ module _ {K V : Type 0} (items : V → List ℕ) (k : Ghosts K) (t : Traffic) (p
   pub fails_so :
       (bytes : List ℕ) (fault : ServeFault) → next_in p.left ≡ IsFrame bytes rest
       → ReactsSo items k p.stands p.moments (reaction p.stands p.moments bytes) (Err fault) c clock
-      → (fault ≡ faults.Clock → SaysLine bytes) → (net : Option Traffic) → net ≡ Some heard → TakesTurn k t p (Err fault) c net clock
+      → (fault ≡ faults.Clock → TakesAMoment bytes) → (net : Option Traffic) → net ≡ Some heard → TakesTurn k t p (Err fault) c net clock
   fails_so bytes faults.Disk next reacts line net now = record {
     state = reacts.0;
     net = (rest, now);

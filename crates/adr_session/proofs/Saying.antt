@@ -4,7 +4,7 @@ use Rattle.adr_call.specs.declared.event.Event.{Event}
 use Rattle.adr_call.specs.declared.event.Event.TheVariants.{Calls}
 use Rattle.adr_schedule.specs.Commands.{event_of}
 use Rattle.adr_schedule.specs.Grammar.{IsAllowed}
-use Rattle.adr_schedule.proofs.AllowedLaws.{lined_supported, spelled_allowed}
+use Rattle.adr_schedule.proofs.AllowedLaws.{spelled_allowed}
 use Rattle.adr_schedule.proofs.EventLaws.{lines_spelled}
 use Rattle.adr_law_headline.proofs.Following.{well_asked}
 use Rattle.adr_law_headline.proofs.Typing.{event_typed}
@@ -18,4 +18,4 @@ lines_typed line e is = event_typed e (said_allowed line e is)
 
 pub lines_given : LinesSayGivenCalls
 lines_given line name what now is small =
-    let allowed = said_allowed line (Calls name what) is in (well_asked what allowed.0, lines_typed line (Calls name what) is, lined_supported (Calls name what) allowed.0, small)
+    let allowed = said_allowed line (Calls name what) is in (well_asked what allowed.0, lines_typed line (Calls name what) is, small)

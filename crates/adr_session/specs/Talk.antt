@@ -1,5 +1,5 @@
 -- A connection: what a client says, how each message is answered, and where the node then stands.
-use Rattle.std.specs.Prelude.{◌≡◌, if◌then◌else◌, ◌==◌, ◌&&◌, ℕ, zero, suc, List, [], ◌∷◌, ◌++◌, Bool, not, nat_le, length, codes, Option, Some, None, Result, Ok, Err}
+use Rattle.std.specs.Prelude.{◌≡◌, if◌then◌else◌, ◌==◌, ◌&&◌, ℕ, zero, suc, List, [], ◌∷◌, ◌++◌, Bool, true, false, not, nat_le, length, codes, Option, Some, None, Result, Ok, Err}
 use Rattle.adr_call.specs.declared.outcome.Outcome.{Outcome}
 use Rattle.adr_call.specs.declared.refusal.ServeRefusal.{ServeRefusal}
 use Rattle.adr_call.specs.declared.refusal.ServeRefusal.TheVariants as serves
@@ -95,9 +95,9 @@ abbrev pub acts : Found State → ℕ → Option Call → Answered
 acts f now None = (f, 5 ∷ codes "bad line")
 acts f now (Some call) = did f call (done f.state (call_meant call now))
 
--- what is said is answered; requests are of version 1, whose replies tell no moment
+-- what is said is answered
 abbrev pub answered : Found State → ℕ → Said → Answered
-answered f now (Asks request) = replies f (serve f.state request 0)
+answered f now (Asks request) = replies f (serve f.state request now)
 answered f now (Gives line) = acts f now (call_said line)
 answered f now Greets = (f, 7 ∷ f.state.dsa)
 
@@ -111,7 +111,7 @@ pub record Point : Type 0 where
   pub sent : List ℕ  -- what was sent
 
 -- how a connection ends: between two frames, with bytes that are no message of a client, behind as many messages as there may
--- be, or at a line for which the clock has no moment
+-- be, or at a line or a request for which the clock has no moment
 pub data Ends : Type 0 where
   Hung : Ends
   Malformed : Ends
@@ -123,12 +123,19 @@ pub data Reaction : Type 0 where
   Sends : (answer : Answered) (moments : List ℕ) → Reaction
   Leaves : (ends : Ends) → Reaction
 
--- the moment of a message, and the moments behind it: each line takes one
+-- each line and each request takes a moment; a greeting takes none
+abbrev pub takes_moment : Said → Bool
+takes_moment (Asks request) = true
+takes_moment (Gives line) = true
+takes_moment Greets = false
+
+abbrev pub next_moment : List ℕ → Option (ℕ × List ℕ)
+next_moment [] = None
+next_moment (now ∷ moments) = Some (now, moments)
+
+-- the moment of a message, and the moments behind it
 abbrev pub moment_of : Said → List ℕ → Option (ℕ × List ℕ)
-moment_of (Gives line) [] = None
-moment_of (Gives line) (now ∷ moments) = Some (now, moments)
-moment_of (Asks request) moments = Some (0, moments)
-moment_of Greets moments = Some (0, moments)
+moment_of said moments = if takes_moment said then next_moment moments else Some (0, moments)
 
 -- what is said at a moment, if there is one
 abbrev pub at_moment : Found State → Said → Option (ℕ × List ℕ) → Reaction

@@ -1,5 +1,5 @@
 -- What calls tell of a session: where the node, its connection and its clock stand.
-use Rattle.std.specs.Prelude.{◌≡◌, ◌⊎◌, ◌<◌, ◌≤◌, ℕ, List, ◌++◌, take, Option, Some, None, Result, Ok, Err}
+use Rattle.std.specs.Prelude.{◌≡◌, ◌⊎◌, ◌<◌, ◌≤◌, ℕ, true, List, ◌++◌, take, Option, Some, None, Result, Ok, Err}
 use Rattle.adr_disk.specs.Disk.{Among}
 use Rattle.adr_model.specs.Store.{State}
 use Rattle.adr_law_journal.specs.Areas.{Found, Started}
@@ -14,7 +14,7 @@ use Rattle.adr_session.specs.declared.ending.End.TheVariants as ended
 use Rattle.adr_session.specs.declared.ending.Served.{Served}
 use Rattle.adr_session.specs.declared.ending.ServeFault.{ServeFault}
 use Rattle.adr_session.specs.declared.ending.ServeFault.TheVariants as faults
-use Rattle.adr_session.specs.Talk.{Gives, said_in, Point, Goes, Stops, Ends, Hung, Malformed, Limit, Reaction, Sends, Leaves, turn, talk, Reaches, message_limit}
+use Rattle.adr_session.specs.Talk.{Said, said_in, takes_moment, Point, Goes, Stops, Ends, Hung, Malformed, Limit, Reaction, Sends, Leaves, turn, talk, Reaches, message_limit}
 
 -- ---- the node alone
 
@@ -52,9 +52,9 @@ abbrev pub FindsOneOf : Found State → Reaction → Started State → Type 0
 FindsOneOf f (Sends a rest) s = FindsState f.state s ⊎ FindsState a.0.state s
 FindsOneOf f (Leaves ends) s = FindsState f.state s
 
--- the bytes of a frame are a line
-abbrev pub SaysLine : List ℕ → Type 0
-SaysLine bytes = (line : List ℕ) × (said_in bytes ≡ Some (Gives line))
+-- the bytes of a frame say what takes a moment: a line or a request
+abbrev pub TakesAMoment : List ℕ → Type 0
+TakesAMoment bytes = (said : Said) × (said_in bytes ≡ Some said) × (takes_moment said ≡ true)
 
 -- ---- the node, its connection and its clock
 
@@ -125,9 +125,9 @@ pub record HasHeard {K : Type 0} (k : Ghosts K) (t : Traffic) (p : Point) (bytes
   pub net : traffic ≡ Some (record t { left = rest; sent = p.sent })
   pub clock : moments ≡ Some p.moments
 
--- the next message at a point is a line
-abbrev pub IsAtLine : Point → Type 0
-IsAtLine p = (bytes rest : List ℕ) × (next_in p.left ≡ IsFrame bytes rest) × SaysLine bytes
+-- the next message at a point is a line or a request
+abbrev pub IsAtMoment : Point → Type 0
+IsAtMoment p = (bytes rest : List ℕ) × (next_in p.left ≡ IsFrame bytes rest) × TakesAMoment bytes
 
 -- ---- one message, from a point
 
@@ -145,7 +145,7 @@ abbrev pub TakesTurn :
 TakesTurn k t p (Ok None) c net moments = (q : Point) × (turn p ≡ Goes q) × IsAt k t q c net moments
 TakesTurn k t p (Ok (Some end)) c net moments = EndsSo k t p end c net moments
 TakesTurn k t p (Err faults.Disk) c net moments = HasFailed k t p c net moments
-TakesTurn k t p (Err faults.Clock) c net moments = IsAtLine p × IsBehind k t p c net moments
+TakesTurn k t p (Err faults.Clock) c net moments = IsAtMoment p × IsBehind k t p c net moments
 TakesTurn k t p (Err faults.NoMemory) c net moments = (q : Point) × IsWanting k t p q c net moments
 
 -- a start finds where the node stands at a point, or behind the message that comes next

@@ -50,22 +50,23 @@ fn hindered(alloc: Global, hindrance: Hindrance) -> Result<Vec<u8>, ServeFault>
     }
 }
 
-/// The frame that answers a request: a reply or a refusal. A controller that it shows to be put back is quarantined before.
+/// The frame that answers a request at a moment in seconds: a reply or a refusal. A controller that it shows to be put back is quarantined before.
 pub(crate) fn reply_to<K: Keeper>(
     alloc: Global,
     controller: &mut Controller<K>,
     request: &Request,
+    now: u64,
 ) -> Result<Vec<u8>, ServeFault>
     requires up { IsSome controller.old.state }
     requires log { KeepsLog K.Keeper }
     requires form { IsRequest request.now }
-    ensures { Makes (λ v. v.items) K.Keeper (λ f. replies f (serve f.state request.now 0))
+    ensures { Makes (λ v. v.items) K.Keeper (λ f. replies f (serve f.state request.now now))
         controller.old controller.new result }
 {
     served_replies_have_a_form();
     replies_have_one_spelling();
     let _ = controller.state();
-    match controller.serve(alloc, request) {
+    match controller.serve(alloc, request, now) {
         Ok(reply) => Ok(replied(alloc, &reply)?),
         Err(CallRefusal::Refused(refusal)) => Ok(refused(alloc, &Refusal::Serve(refusal))?),
         Err(CallRefusal::Hindered(hindrance)) => hindered(alloc, hindrance),

@@ -2,6 +2,7 @@
 
 use crate::memory::{Failing, Memory, identifiers};
 use adr_run_disk::MemDisk;
+use adr_test_outside::{MemClock, MemNet};
 use std::alloc::Global;
 use std::test::Fail;
 
@@ -208,6 +209,29 @@ fn a_log_of_an_earlier_build_is_shown(rt: HostRuntime) -> Result<(), Fail> {
         let (status, after) = outcome(rt.alloc(), &case, disk, Failing::Never)?;
         assert_eq!(rt; (status, after.sink.bytes()), (0, *written));
     }
+    Ok(())
+}
+
+/// The frame of a line that adds a container.
+const ADD: &[u8] = b"\0\0\0\x19\x04add #10 container #1 \"x\"";
+
+#[test]
+fn the_first_line_to_a_log_of_an_earlier_build_writes_an_area_of_this_one(
+    rt: HostRuntime,
+) -> Result<(), Fail> {
+    let alloc = rt.alloc();
+    let mut came = Vec::new(alloc);
+    came.push(Vec::from_slice(alloc, ADD)?)?;
+    let mut memory = Memory::new(alloc, b"", 7)?;
+    memory.disk = MemDisk::of(alloc, LOG.concat(alloc)?);
+    memory.net = MemNet::new(alloc, came);
+    memory.clock = MemClock::new(Vec::from_slice(alloc, &[10])?);
+    let (status, after) = memory.run(alloc, &["serve", "N1", "4000", "1"])?;
+    assert_eq!(rt; status, 0);
+    assert_eq!(rt; after.sink.bytes(), b"connection 1: 1 end\n".as_slice());
+    let bytes = after.disk.bytes(alloc)?;
+    assert_eq!(rt; (bytes.get(39), bytes.get(55)), (Some(&0xC3), Some(&101)));
+    assert_eq!(rt; (bytes.get(101), bytes.get(102)), (Some(&0), Some(&2)));
     Ok(())
 }
 

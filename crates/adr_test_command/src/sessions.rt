@@ -79,19 +79,31 @@ const HELLO: &[u8] = b"\0\0\0\x01\x06";
 
 /// The greeting and the request of `#a0` to `#b0`, for 1,000 items from the beginning.
 const ASKED: &[u8] =
-    b"\0\0\0\x01\x06\0\0\0[\x01ADRQ\0\x01\0\0\0\0\0\0\0\0\0\0\0\0\0\0\0\xa0\0\0\0\0\0\0\0\0\0\0\0\0\0\0\0\xb0\0\0\0\0\0\0\0\0\0\0\0\0\0\0\0\0\0\0\0\0\0\0\0\0\0\0\0\0\0\0\0\0\0\0\0\0\0\0\0\0\0\0\0\x01\0\0\x03\xe8\0\0\0\0";
+    b"\0\0\0\x01\x06\0\0\0[\x01ADRQ\0\x02\0\0\0\0\0\0\0\0\0\0\0\0\0\0\0\xa0\0\0\0\0\0\0\0\0\0\0\0\0\0\0\0\xb0\0\0\0\0\0\0\0\0\0\0\0\0\0\0\0\0\0\0\0\0\0\0\0\0\0\0\0\0\0\0\0\0\0\0\0\0\0\0\0\0\0\0\0\x01\0\0\x03\xe8\0\0\0\0";
 
 /// The identity of `#b0`, and its last, empty reply to that.
 const NOTHING: &[u8] =
     b"\0\0\0\x11\x07\0\0\0\0\0\0\0\0\0\0\0\0\0\0\0\xb0\0\0\0x\x02ADRP\0\x01\0\0\0\0\0\0\0\0\0\0\0\0\0\0\0\xa0\0\0\0\0\0\0\0\0\0\0\0\0\0\0\0\xb0\0\0\0\0\0\0\0\0\0\0\0\0\0\0\0\xb1\0\0\0\0\0\0\0\0\0\0\0\0\0\0\0\0\0\0\0\0\0\0\0\0\0\0\0\0\0\0\0\0\0\0\0\0\0\0\0\0\0\0\0\0\0\0\0\0\0\0\0\x01\0\0\0\0\x01\0\0\0\0\0\0\0\0";
 
-/// The same without its last byte.
+/// The identity of `#b0`, and its last reply to that, which has no items and tells that `#b1` was read to 1 at 7.
+const TIMED: &[u8] =
+    b"\0\0\0\x11\x07\0\0\0\0\0\0\0\0\0\0\0\0\0\0\0\xb0\0\0\0\x98\x02ADRP\0\x02\0\0\0\0\0\0\0\0\0\0\0\0\0\0\0\xa0\0\0\0\0\0\0\0\0\0\0\0\0\0\0\0\xb0\0\0\0\0\0\0\0\0\0\0\0\0\0\0\0\xb1\0\0\0\0\0\0\0\0\0\0\0\0\0\0\0\0\0\0\0\0\0\0\0\0\0\0\0\0\0\0\0\x01\0\0\0\0\0\0\0\x01\0\0\0\0\0\0\0\x01\0\0\0\x01\0\0\0\0\x01\0\0\0\x01\0\0\0\0\0\0\0\0\0\0\0\0\0\0\0\xb1\0\0\0\0\0\0\0\x01\0\0\0\0\0\0\0\x07\0\0\0\0";
+
+/// The identity and the empty reply without its last byte.
 const CUT: &[u8] =
     b"\0\0\0\x11\x07\0\0\0\0\0\0\0\0\0\0\0\0\0\0\0\xb0\0\0\0x\x02ADRP\0\x01\0\0\0\0\0\0\0\0\0\0\0\0\0\0\0\xa0\0\0\0\0\0\0\0\0\0\0\0\0\0\0\0\xb0\0\0\0\0\0\0\0\0\0\0\0\0\0\0\0\xb1\0\0\0\0\0\0\0\0\0\0\0\0\0\0\0\0\0\0\0\0\0\0\0\0\0\0\0\0\0\0\0\0\0\0\0\0\0\0\0\0\0\0\0\0\0\0\0\0\0\0\0\x01\0\0\0\0\x01\0\0\0\0\0\0\0";
 
 /// The identity of `#b0`, and its refusal since its schema is 2.
 const OTHER_SCHEMA: &[u8] =
     b"\0\0\0\x11\x07\0\0\0\0\0\0\0\0\0\0\0\0\0\0\0\xb0\0\0\0\x10\x03ADRF\0\x01\x1f\0\0\0\x02\0\0\0\x01";
+
+/// Requests of `#b0`, which has read `#a1` to 2: one of version 1, and one of version 2.
+const REQUESTS: &[u8] =
+    b"\0\0\0s\x01ADRQ\0\x01\0\0\0\0\0\0\0\0\0\0\0\0\0\0\0\xb0\0\0\0\0\0\0\0\0\0\0\0\0\0\0\0\xa0\0\0\0\0\0\0\0\0\0\0\0\0\0\0\0\0\0\0\0\0\0\0\0\0\0\0\0\0\0\0\0\0\0\0\0\0\0\0\0\0\0\0\0\x01\0\0\0\x0a\0\0\0\x01\0\0\0\0\0\0\0\0\0\0\0\0\0\0\0\xa1\0\0\0\0\0\0\0\x02\0\0\0s\x01ADRQ\0\x02\0\0\0\0\0\0\0\0\0\0\0\0\0\0\0\xb0\0\0\0\0\0\0\0\0\0\0\0\0\0\0\0\xa0\0\0\0\0\0\0\0\0\0\0\0\0\0\0\0\0\0\0\0\0\0\0\0\0\0\0\0\0\0\0\0\0\0\0\0\0\0\0\0\0\0\0\0\x01\0\0\0\x0a\0\0\0\x01\0\0\0\0\0\0\0\0\0\0\0\0\0\0\0\xa1\0\0\0\0\0\0\0\x02";
+
+/// The last replies to them. The second one tells the moment at which it was asked for.
+const REPLIES: &[u8] =
+    b"\0\0\0\xa8\x02ADRP\0\x01\0\0\0\0\0\0\0\0\0\0\0\0\0\0\0\xb0\0\0\0\0\0\0\0\0\0\0\0\0\0\0\0\xa0\0\0\0\0\0\0\0\0\0\0\0\0\0\0\0\xa1\0\0\0\0\0\0\0\0\0\0\0\0\0\0\0\0\0\0\0\0\0\0\0\0\0\0\0\0\0\0\0\x02\0\0\0\0\0\0\0\x02\0\0\0\0\0\0\0\x02\0\0\0\x01\0\0\0\x01\0\0\0\0\0\0\0\0\0\0\0\0\0\0\0\xa1\0\0\0\0\0\0\0\x02\x01\0\0\0\x01\0\0\0\0\0\0\0\0\0\0\0\0\0\0\0\xa1\0\0\0\0\0\0\0\x02\0\0\0\0\0\0\0\xb0\x02ADRP\0\x02\0\0\0\0\0\0\0\0\0\0\0\0\0\0\0\xb0\0\0\0\0\0\0\0\0\0\0\0\0\0\0\0\xa0\0\0\0\0\0\0\0\0\0\0\0\0\0\0\0\xa1\0\0\0\0\0\0\0\0\0\0\0\0\0\0\0\0\0\0\0\0\0\0\0\0\0\0\0\0\0\0\0\x02\0\0\0\0\0\0\0\x02\0\0\0\0\0\0\0\x02\0\0\0\x01\0\0\0\x01\0\0\0\0\0\0\0\0\0\0\0\0\0\0\0\xa1\0\0\0\0\0\0\0\x02\x01\0\0\0\x01\0\0\0\0\0\0\0\0\0\0\0\0\0\0\0\xa1\0\0\0\0\0\0\0\x02\0\0\0\0\0\0\0\x14\0\0\0\0";
 
 /// Commands over one disk, one after the other, from its making on.
 const SERVED: &[Case] = &[
@@ -138,6 +150,13 @@ const SERVED: &[Case] = &[
         written: b"show N1: 0\n",
         ..DONE
     },
+    Case {
+        words: &["serve", "N1", "4000", "1"],
+        came: &[REQUESTS],
+        written: b"connection 1: 2 end\n",
+        sent: &[REPLIES],
+        ..DONE
+    },
 ];
 
 /// Pulls of a new controller, and lines that are sent.
@@ -145,6 +164,13 @@ const CALLED: &[Case] = &[
     Case {
         words: &["pull", "N1", "4000"],
         came: &[NOTHING],
+        written: b"deliver N1: ok items=0 wrote=0 usn=0\n",
+        sent: &[ASKED],
+        ..DONE
+    },
+    Case {
+        words: &["pull", "N1", "4000"],
+        came: &[TIMED],
         written: b"deliver N1: ok items=0 wrote=0 usn=0\n",
         sent: &[ASKED],
         ..DONE
@@ -315,10 +341,25 @@ fn a_call_that_fails_in_a_send(rt: HostRuntime) -> Result<(), Fail> {
         (Failing::Net(2), 7),
         (Failing::Sink(0), 5),
     ] {
-        let (status, came) = outcome_of(rt.alloc(), &CALLED[4], MemDisk::new(rt.alloc()), failing)?;
+        let (status, came) = outcome_of(rt.alloc(), &CALLED[5], MemDisk::new(rt.alloc()), failing)?;
         assert_eq!(rt; status, due);
         assert!(rt; came.sink.bytes().is_empty());
     }
+    Ok(())
+}
+
+/// Each request takes a moment, so a clock that gives one alone ends the serving at the second.
+#[test]
+fn a_clock_that_fails_at_a_request(rt: HostRuntime) -> Result<(), Fail> {
+    let mut disk = MemDisk::new(rt.alloc());
+    for case in &SERVED[..6] {
+        let (_, came) = outcome_of(rt.alloc(), case, disk, Failing::Never)?;
+        disk = came.into_disk();
+    }
+    let (status, came) = outcome_of(rt.alloc(), &SERVED[6], disk, Failing::Clock(1))?;
+    assert_eq!(rt; status, 12);
+    assert!(rt; came.sink.bytes().is_empty());
+    assert!(rt; has_sent(&came.net, &[&REPLIES[..172]]));
     Ok(())
 }
 

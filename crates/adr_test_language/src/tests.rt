@@ -113,6 +113,9 @@ const WRITES: &[&[u8]] = &[
     b"delete A #10\n",
     b"link A #10 member #11\n",
     b"unlink A #10 %900 #11\n",
+    b"add A #10 contact #1 \"c\" title=\"t\"\n",
+    b"modify A #10 title=\"t\" department=\"d\" accountExpires=0 managedObjects=#2\n",
+    b"link A #10 managedBy #11\n",
 ];
 
 #[test]
@@ -129,11 +132,17 @@ fn writes_are_printed_in_one_form(rt: HostRuntime) -> Result<(), Fail> {
 add A #10 %5 #1 \"Ann\" mail=\"m\" sAMAccountName=\"ann\" %12=\"d\"
 modify  A  #10  %77=1  mail=  class=5
 link A #10 %30 #00000000-0000-0000-0000-000000000011
+add A #12 %8 #1 \"c\" %23=5 %22=\"d\" %21=\"t\"
+link A #10 %34 #12
+modify A #12 %35=
 ";
     let want = b"controller A #a0 #a1
 add A #10 user #1 \"Ann\" sAMAccountName=\"ann\" description=\"d\" mail=\"m\"
 modify A #10 class=5 mail= %77=1
 link A #10 member #11
+add A #12 contact #1 \"c\" title=\"t\" department=\"d\" accountExpires=5
+link A #10 managedBy #12
+modify A #12 managedObjects=
 ";
     assert_eq!(rt; shown(rt.alloc(), text)?.as_slice(), want.as_slice());
     Ok(())
@@ -349,8 +358,24 @@ const BAD_COPIES: &[&[u8]] = &[
     b"rollback A",
     b"rollback A #1",
     b"rollback A s s",
+    b"upgrade",
+    b"upgrade #a0",
+    b"upgrade 2",
+    b"upgrade A B",
+    b"upgrade A 2",
+    b"revive",
+    b"revive A #10 i #1",
+    b"revive A #10 i \"u\"",
+    b"revive A #10 #1 \"u\"",
+    b"revive A i #10 #1 \"u\"",
+    b"revive #10 i #1 \"u\"",
+    b"revive A #10 i #1 u",
+    b"revive A #10 i #1 \"u\" \"u\"",
+    b"revive A #10 user i #1 \"u\"",
     // words
     b"Collect A 5",
+    b"Upgrade A",
+    b"Revive A #10 i #1 \"u\"",
     b"back A as i",
     b"backup A AS i",
     b"backup A asi",
@@ -361,6 +386,7 @@ const BAD_COPIES: &[&[u8]] = &[
     b"collect A -1",
     b"collect A 18446744073709551616",
     b"restore A i #0a",
+    b"revive A #010 i #1 \"u\"",
     b"install C #0c i #c1",
 ];
 
@@ -494,6 +520,10 @@ backup i as A
 snapshot C as A
 restore i A #c2
 rollback i A
+upgrade A
+upgrade i
+revive A #10 i #1 \"u\"
+revive i #00000001-0000-0000-0000-000000000000 A #2 \"\"
 ";
     is_printed(&rt, rt.alloc(), COPIED, lines)
 }
@@ -520,6 +550,11 @@ const MISPLACED_COPIES: &[(&[u8], &[u8])] = &[
     (b"install C #c0 i #b1", b"line 5: identifier used\n"),
     (b"rollback C s", b"line 5: unknown name\n"),
     (b"rollback A i", b"line 5: unknown name\n"),
+    (b"upgrade C", b"line 5: unknown name\n"),
+    (b"upgrade s", b"line 5: unknown name\n"),
+    (b"revive C #10 i #1 \"u\"", b"line 5: unknown name\n"),
+    (b"revive A #10 j #1 \"u\"", b"line 5: unknown name\n"),
+    (b"revive A #10 s #1 \"u\"", b"line 5: unknown name\n"),
     // what the line before bound and gave
     (b"backup B as j\nbackup A as j", b"line 6: name used\n"),
     (b"snapshot B as t\nsnapshot A as t", b"line 6: name used\n"),

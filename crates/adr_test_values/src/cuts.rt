@@ -31,8 +31,8 @@ fn five(alloc: Global, number: usize) -> Result<Vec<Written>, NoMemory> {
 
 /// What a new controller is served that asks for ten items at most.
 fn reply(alloc: Global, source: &State) -> Result<Reply, Failure<ServeRefusal>> {
-    let request = ask(alloc, &controller(alloc, 2), source.dsa(), 10)?;
-    serve(alloc, source, &request)
+    let request = ask(alloc, &controller(alloc, 2), source.dsa(), 10, 2)?;
+    serve(alloc, source, &request, 7)
 }
 
 /// The first reply of a controller with five containers.

@@ -10,6 +10,8 @@ mod full_vectors;
 #[cfg(test)]
 mod holding;
 #[cfg(test)]
+mod hostile;
+#[cfg(test)]
 mod images;
 #[cfg(test)]
 mod json;

@@ -46,16 +46,17 @@ fn has(schema: Schema, class: u16, attr: u16) -> bool {
         Some(Kind::Plain { .. }) => {
             !matches!(
                 schema.check_values(Some(class), attr, &[]),
-                Err(SchemaRefusal::NotAllowed { .. })
+                Err(SchemaRefusal::NotAllowed { .. } | SchemaRefusal::UnknownAttribute { .. })
             )
         }
         _ => schema.check_link(class, attr).is_ok(),
     }
 }
 
-fn has_only(schema: Schema, class: u16, must: &[u16], may: &[u16]) -> bool {
+fn has_only(schema: Schema, class: u16, must: &[u16], may: &[u16], more: &[u16]) -> bool {
     for attr in 0..40 {
-        if has(schema, class, attr) != (must.contains(&attr) || may.contains(&attr)) {
+        let may_have = may.contains(&attr) || more.contains(&attr);
+        if has(schema, class, attr) != (must.contains(&attr) || may_have) {
             return false;
         }
     }
@@ -71,24 +72,47 @@ fn stands_only_under(schema: Schema, class: u16, superiors: &[u16]) -> bool {
     true
 }
 
+/// What objects of a class may have in the second schema besides.
+fn more_in_the_second(class: u16) -> &'static [u16] {
+    match class {
+        3 | 6 | 7 => &[34],
+        5 => &[21, 22, 23],
+        _ => &[],
+    }
+}
+
 #[test]
 fn classes_are_those_of_the_table(rt: HostRuntime) -> Result<(), Fail> {
-    let schema = Schema::new(1).ok_or("schema 1")?;
+    let (first, second) = (Schema::new(1), Schema::new(2));
+    let (first, second) = (first.ok_or("schema 1")?, second.ok_or("schema 2")?);
     for (class, name, must, may, superiors) in CLASSES {
         let class = *class;
         let named = class_name(class) == Some(*name)
             && class_number(name.as_bytes()) == Some(class);
+        let more = more_in_the_second(class);
         assert!(rt;
-            named
-                && schema.must(class) == *must
-                && has_only(schema, class, must, may)
-                && stands_only_under(schema, class, superiors),
+            named && first.must(class) == *must && second.must(class) == *must,
             "{name}"
         );
+        assert!(rt; has_only(first, class, must, may, &[]), "{name}");
+        assert!(rt; has_only(second, class, must, may, more), "{name}");
+        assert!(rt; stands_only_under(first, class, superiors), "{name}");
+        assert!(rt; stands_only_under(second, class, superiors), "{name}");
     }
-    for class in &[0, 1, 2, 8, 9] {
+    for class in &[0, 1, 2, 9, 10] {
         assert_eq!(rt; class_name(*class), None);
     }
+    Ok(())
+}
+
+#[test]
+fn the_second_schema_has_contacts(rt: HostRuntime) -> Result<(), Fail> {
+    let schema = Schema::new(2).ok_or("schema 2")?;
+    assert_eq!(rt; class_name(8), Some("contact"));
+    assert_eq!(rt; class_number(b"contact"), Some(8));
+    assert!(rt; schema.must(8).is_empty());
+    assert!(rt; has_only(schema, 8, &[], &[11, 12, 13, 14, 18, 21, 32], &[]));
+    assert!(rt; stands_only_under(schema, 8, &[1, 3, 4]));
     Ok(())
 }
 
@@ -108,10 +132,15 @@ const ATTRIBUTES: &[(u16, &str, Kind)] = &[
     (18, "seeAlso", Kind::Plain { syntax: Syntax::Ref, most: 8 }),
     (19, "groupType", Kind::Plain { syntax: Syntax::Number { least: -2147483648, greatest: 2147483647 }, most: 1 }),
     (20, "location", Kind::Plain { syntax: Syntax::Text { least: 1, greatest: 128 }, most: 1 }),
+    (21, "title", Kind::Plain { syntax: Syntax::Text { least: 1, greatest: 128 }, most: 1 }),
+    (22, "department", Kind::Plain { syntax: Syntax::Text { least: 1, greatest: 64 }, most: 1 }),
+    (23, "accountExpires", Kind::Plain { syntax: Syntax::Number { least: 0, greatest: 9223372036854775807 }, most: 1 }),
     (30, "member", Kind::Forward { back: 31 }),
     (31, "memberOf", Kind::Back { forward: 30 }),
     (32, "manager", Kind::Forward { back: 33 }),
     (33, "directReports", Kind::Back { forward: 32 }),
+    (34, "managedBy", Kind::Forward { back: 35 }),
+    (35, "managedObjects", Kind::Back { forward: 34 }),
 ];
 
 #[test]
@@ -121,7 +150,7 @@ fn attributes_are_those_of_the_table(rt: HostRuntime) {
             && attribute_number(name.as_bytes()) == Some(*attr);
         assert!(rt; named && attribute_kind(*attr) == Some(*kind), "{name}");
     }
-    for attr in &[0, 4, 9, 21, 29, 34] {
+    for attr in &[0, 4, 9, 24, 29, 36] {
         assert_eq!(rt; attribute_name(*attr), None);
     }
 }

@@ -7,7 +7,7 @@ use Rattle.std.specs.Option.{option_map, option_or}
 use Rattle.std.proofs.lemmas.Bool.{and_parts, leb-true}
 use Rattle.std.proofs.lemmas.Bool.Decides.{nat_tests}
 use Rattle.adr_values.specs.Names.{class_name, class_number, attribute_name, attribute_number}
-use Rattle.adr_values.specs.Schemas.{spoken, schema_1}
+use Rattle.adr_values.specs.Schemas.{spoken, schema_2}
 use Rattle.adr_values.specs.Table.{Class, Attribute}
 use Rattle.adr_values.proofs.Apart.{attributes_told_apart, classes_told_apart}
 use Rattle.adr_token.specs.Words.{strip_byte}
@@ -94,14 +94,14 @@ pub class_told : (n : ℕ) (text : List ℕ) → class_name n ≡ Some text → 
 class_told n text = (classes_told_apart n text).0
 
 class_unnamed : (figures : List ℕ) → class_number (37 ∷ figures) ≡ None
-unfolding schema_1
+unfolding schema_2
 class_unnamed figures = refl
 
 pub attribute_told : (n : ℕ) (text : List ℕ) → attribute_name n ≡ Some text → attribute_number text ≡ Some n
 attribute_told n text = (attributes_told_apart n text).0
 
 attribute_unnamed : (figures : List ℕ) → attribute_number (37 ∷ figures) ≡ None
-unfolding schema_1
+unfolding schema_2
 attribute_unnamed figures = refl
 
 -- a name that a search finds is seen
@@ -112,7 +112,7 @@ name_seen name test xs text h e =
     subst (λ (y : List ℕ). is_seen_name y ≡ true) there.2 (found test (λ x. is_seen_name (name x)) xs there.0 h there.1).1
 
 names_seen : (list_all (λ (c : Class). is_seen_name c.name) spoken.classes ≡ true) × (list_all (λ (a : Attribute). is_seen_name a.name) spoken.attributes ≡ true)
-unfolding schema_1
+unfolding schema_2
 names_seen = (refl, refl)
 
 class_seen : (n : ℕ) (text : List ℕ) → class_name n ≡ Some text → is_seen_name text ≡ true
@@ -123,7 +123,7 @@ attribute_seen n text e = name_seen attribute_named (λ a. a.number == n) spoken
 
 -- a name that a search finds is short
 attributes_short : list_all (λ (a : Attribute). nat_le (length a.name) 32) spoken.attributes ≡ true
-unfolding schema_1
+unfolding schema_2
 attributes_short = refl
 
 name_short : {A : Type 0} (name : A → List ℕ) (test : A → Bool) (xs : List A) (o : Option A) → list_all (λ x. nat_le (length (name x)) 32) xs ≡ true → find test xs ≡ o → name_room (option_map name o) ≤ 32

@@ -8,7 +8,7 @@ use Rattle.std.proofs.lemmas.Bool.{and_parts}
 use Rattle.std.proofs.lemmas.Bool.Decides.{Decides-eqb}
 use Rattle.std.proofs.lemmas.Slice.Eq.{bytes_eq-Decides}
 use Rattle.adr_values.specs.Names.{class_name, class_number, attribute_name, attribute_number}
-use Rattle.adr_values.specs.Schemas.{spoken, schema_1}
+use Rattle.adr_values.specs.Schemas.{spoken, schema_2}
 use Rattle.adr_values.specs.Table.{Class, Attribute}
 
 module _ {X K L : Type 0} (key : X → K) (other : X → L) (is_key : K → K → Bool) (is_other : L → L → Bool) (keys : (a b : K) → Decides (is_key a b) (a ≡ b)) (others : (a b : L) → Decides (is_other a b) (a ≡ b)) where
@@ -71,9 +71,9 @@ module _ {X : Type 0} (number : X → ℕ) (name : X → List ℕ) (xs : List X)
   )
 
 pub classes_told_apart : (number : ℕ) (name : List ℕ) → (class_name number ≡ Some name) ↔ (class_number name ≡ Some number)
-unfolding schema_1
+unfolding schema_2
 classes_told_apart number name = told_apart (λ (c : Class). c.number) (λ (c : Class). c.name) spoken.classes (refl, refl) number name
 
 pub attributes_told_apart : (number : ℕ) (name : List ℕ) → (attribute_name number ≡ Some name) ↔ (attribute_number name ≡ Some number)
-unfolding schema_1
+unfolding schema_2
 attributes_told_apart number name = told_apart (λ (a : Attribute). a.number) (λ (a : Attribute). a.name) spoken.attributes (refl, refl) number name

@@ -11,7 +11,6 @@ pub mod Firsts
 pub mod Growing
 pub mod GuidOrder
 pub mod Joining
-pub mod Known
 pub mod Moments
 pub mod Numbers
 pub mod Order

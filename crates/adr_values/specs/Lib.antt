@@ -4,7 +4,6 @@ pub mod Dated
 pub mod Extends
 pub mod First
 pub mod Folding
-pub mod Known
 pub mod Merging
 pub mod Names
 pub mod Numbered

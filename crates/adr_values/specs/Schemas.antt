@@ -90,4 +90,4 @@ newest = schema_2
 
 -- the schema that texts know: names are read and written by it, whatever schema a controller has
 abbrev pub spoken : Table
-spoken = schema_1
+spoken = schema_2

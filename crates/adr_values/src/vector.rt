@@ -4,7 +4,6 @@ ghost use Rattle.std.specs.Prelude.{◌≡◌, ◌≢◌, ◌<◌, ◌≤◌, �
 ghost use Rattle.std.specs.declared.cmp.Ordering.TheVariants.{Less};
 ghost use Rattle.adr_values.specs.Order.{identifier_order};
 ghost use Rattle.adr_values.specs.Vector.{Cursors, IsVector, at, covers, at_most, first_gap, raised, joined, cursor_limit};
-ghost use Rattle.adr_values.specs.Known.{has_cursors_of};
 ghost use Rattle.adr_values.specs.Place.{IsAt, IsGapFor};
 ghost use Rattle.adr_values.specs.Refusal.{full};
 
@@ -128,18 +127,6 @@ impl Vector {
         self.search_gap(other)
     }
 
-    /// Whether each identifier of the other has a cursor here as well.
-    pub fn has_cursors_of(&self, other: &Vector) -> bool
-        ensures { result ≡ has_cursors_of self.now other.now }
-    {
-        for (inv, _) in &other.cursors {
-            if self.at(*inv) == 0 {
-                return false;
-            }
-        }
-        true
-    }
-
     /// How many cursors there are of this one and the other as one.
     pub fn len_joined(&self, other: &Vector) -> usize
         ensures both { result ≡ length (joined self.now other.now) }
@@ -160,16 +147,6 @@ impl Vector {
         }
         let cursors = merge(alloc, &self.cursors, &other.cursors)?;
         Ok(Vector { cursors })
-    }
-
-    /// Takes over what the other has seen, where that needs no new cursor and so no memory.
-    pub fn join_known(&mut self, other: &Vector)
-        requires { has_cursors_of self.old other.now ≡ true }
-        ensures { self.new ≡ joined self.old other.now }
-    {
-        for (inv, usn) in &other.cursors {
-            self.raise_known(*inv, *usn);
-        }
     }
 
     /// Brings the number at one identifier up to this one. A number that is 0, or that has been seen, changes nothing.

@@ -5,3 +5,4 @@ mod LiveParts
 mod YoungestNames
 mod NextRow
 mod PairByPair
+mod FoundSeen

@@ -4,3 +4,4 @@ pub mod Named
 pub mod Slots
 pub mod Youngest
 pub mod Report
+pub mod Seen

@@ -14,8 +14,8 @@ pub returns : goal.returns
 returns c =
     let none = c.in_ok-is_last.ensures ∙ ap (λ r. is_none (next c.last_sent-last.result (candidates r c.begins_at-from.result c.vector-asked.result.now))) (c.rows-2.ensures ∙ sym c.rows.ensures) in
     IfOk-weaker c.reply_of.result _ _
-    (λ reply e now. e now
+    (λ reply e. e
     ∙ reply_is c.rows.result.now c.begins_at-from.result c.vector-asked.result.now c.max.result c.last_sent-last.result c.in_ok-sent.sent.items c.as_slice.result.now
     c.in_ok-sent.ensures c.as_slice.ensures.value c.last_sent-last.ensures
-    c.args.state.now c.args.request.now now c.in_ok-is_last.is_last none c.begins_at-from.ensures c.rows.ensures c.vector-asked.ensures c.max.ensures)
+    c.args.state.now c.args.request.now c.args.now c.in_ok-is_last.is_last none c.begins_at-from.ensures c.rows.ensures c.vector-asked.ensures c.max.ensures)
     c.reply_of.ensures

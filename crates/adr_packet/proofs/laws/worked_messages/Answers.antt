@@ -22,6 +22,10 @@ pub returns-clause-more : goal.returns-clause-more
 unfolding head_at request_at tuple_at parties_at mark_at vector_at cursors_at id_at usn0_at u16_at u32_at u64_at
 returns-clause-more c = refl
 
+pub returns-clause-two : goal.returns-clause-two
+unfolding head_at request_at tuple_at parties_at mark_at vector_at cursors_at id_at usn0_at u16_at u32_at u64_at
+returns-clause-two c = refl
+
 pub returns-clause-version : goal.returns-clause-version
 unfolding head_at u16_at
 returns-clause-version c = refl

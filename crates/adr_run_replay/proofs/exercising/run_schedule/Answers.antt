@@ -1,6 +1,5 @@
 use Rattle.std.proofs.Common.{sym, subst}
 use Rattle.std.specs.Prelude.{All}
-use Rattle.adr_call.specs.Supported.{IsSupported}
 use Rattle.adr_model.specs.Convergence.{MayAllHappen}
 use Rattle.adr_law_headline.proofs.Following.{following_may}
 use Rattle.adr_law_headline.proofs.Typing.{following_typed}
@@ -13,6 +12,3 @@ count_all-done-requires-clause-may c =
 
 pub count_all-done-requires-clause-typed : goal.count_all-done-requires-clause-typed
 count_all-done-requires-clause-typed c = subst AreTyped (sym c.as_slice.ensures.value) (following_typed c.in_ok-events.events.items c.in_ok-events.ensures.follows)
-
-pub count_all-done-requires-clause-supported : goal.count_all-done-requires-clause-supported
-count_all-done-requires-clause-supported c = subst (All IsSupported) (sym c.as_slice.ensures.value) c.in_ok-events.ensures.supported

@@ -1,6 +1,5 @@
 use Rattle.std.proofs.Common.{sym, subst}
 use Rattle.std.specs.Prelude.{All}
-use Rattle.adr_call.specs.Supported.{IsSupported}
 use Rattle.adr_model.specs.World.{empty_world}
 use Rattle.adr_model.specs.Convergence.{MayAllHappen}
 use Rattle.adr_law_headline.proofs.Following.{following_may}
@@ -13,6 +12,3 @@ play-played-requires-clause-may g c = subst (MayAllHappen empty_world) (sym c.as
 
 pub play-played-requires-clause-typed : goal.play-played-requires-clause-typed
 play-played-requires-clause-typed g c = subst AreTyped (sym c.as_slice.ensures.value) (following_typed c.in-Ok.events.items c.in-Ok.ensures.follows)
-
-pub play-played-requires-clause-supported : goal.play-played-requires-clause-supported
-play-played-requires-clause-supported g c = subst (All IsSupported) (sym c.as_slice.ensures.value) c.in-Ok.ensures.supported

@@ -1,4 +1,4 @@
-use Rattle.adr_schedule.proofs.ScheduleLaws.{read_texts, schedules_read, schedules_supported}
+use Rattle.adr_schedule.proofs.ScheduleLaws.{read_texts, schedules_read}
 use Rattle.adr_schedule.proofs.laws.schedules_read_back.Goals as goal
 
 pub returns-clause-again : goal.returns-clause-again
@@ -6,6 +6,3 @@ returns-clause-again c = schedules_read
 
 pub returns-clause-only : goal.returns-clause-only
 returns-clause-only c = read_texts
-
-pub returns-clause-supported : goal.returns-clause-supported
-returns-clause-supported c = schedules_supported

@@ -6,11 +6,8 @@ use Rattle.adr_session.specs.Talk.{told}
 use Rattle.adr_session.proofs.CallAnswers.{call_makes}
 use Rattle.adr_session.proofs.acting.done.Goals as goal
 
-pub call-requires-clause-supported : goal.call-requires-clause-supported
-call-requires-clause-supported g c = (c.requires.given c.args.now c.ranges.now.fits).2
-
-pub call-requires-clause-follows : goal.call-requires-clause-follows
-call-requires-clause-follows g c = c.requires.log.given (Does c.args.call.now c.args.now) (c.requires.given c.args.now c.ranges.now.fits)
+pub call-requires : goal.call-requires
+call-requires g c = record { follows = c.requires.log.given (Does c.args.call.now c.args.now) (c.requires.given c.args.now c.ranges.now.fits) }
 
 pub returns-in-Ok : goal.returns-in-Ok
 returns-in-Ok g c =

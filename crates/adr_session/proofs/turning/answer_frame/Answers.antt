@@ -25,7 +25,7 @@ returns-in_err-answer g c =
     rw (r.1, r.2)
     (reacted_turns k g.N.Net g.C.Clock bytes_of c.args.controller.now now net net c.args.clock.now time c.args.bytes.now (Err fault) (Err fault) e.answer c.state.ensures.in_order
     (λ t p h. fails_so bytes_of k t p h.rest now (g.C.Clock.moments time) c.args.bytes.now fault h.next
-    (e.answer.answer p.stands p.moments h.stands h.clock) (λ is. e.at_line (ap Err is)) (g.N.Net.traffic net) h.net)
+    (e.answer.answer p.stands p.moments h.stands h.clock) (λ is. e.at_moment (ap Err is)) (g.N.Net.traffic net) h.net)
     tt (λ is. let x : fault ≡ faults.Disk = (cc is) in ap Err x) (λ is. let x : fault ≡ faults.Clock = (cc is) in e.clock (ap Err x)) e.clock_never_falls
     (time_fault_on fault (g.C.Clock.faults time ≡ g.C.Clock.faults c.args.clock.now) e.no_clock_fault) (λ is. absurd (cc is)) (inr refl) refl)
 

@@ -6,10 +6,11 @@ use Rattle.adr_call.specs.declared.call.Call.TheVariants as calls
 use Rattle.adr_call.specs.declared.outcome.Outcome.{Outcome}
 use Rattle.adr_call.specs.declared.outcome.Outcome.TheVariants as outcomes
 use Rattle.adr_call.specs.declared.refusal.CollectRefusal.{CollectRefusal}
+use Rattle.adr_call.specs.declared.refusal.UpgradeRefusal.{UpgradeRefusal}
 use Rattle.adr_call.specs.declared.refusal.WriteRefusal.{WriteRefusal}
 use Rattle.adr_model.specs.Change.{Change}
-use Rattle.adr_model.specs.Client.{call_meant, collected, done, written}
-use Rattle.adr_model.specs.Refused.{collect_refused, write_refused}
+use Rattle.adr_model.specs.Client.{call_meant, changed_over, collected, done, written}
+use Rattle.adr_model.specs.Refused.{collect_refused, upgrade_refused, write_refused}
 use Rattle.adr_model.specs.Store.{State}
 use Rattle.adr_journal.specs.declared.keeper.Keeper.{Ghosts}
 use Rattle.adr_controller.specs.Able.{AllFollow, called_in}
@@ -82,3 +83,24 @@ returns-in-Collect-clause-refused g c =
 pub returns-in-Collect-clause-calls : goal.returns-in-Collect-clause-calls
 returns-in-Collect-clause-calls g c =
     called g.K.Keeper c.args.what.now (calls.Collect c.in-Collect.lifetime) c.args.now c.args.self.now c.collect.new.self c.in-Collect.is outcomes.Removed collect_refused c.collect.result c.collected.result c.collected.ensures c.collect.ensures.calls
+
+-- ---- a change-over to schema 2
+
+pub upgrade-requires : goal.upgrade-requires
+upgrade-requires g c = record { follows = subst (λ (asked : Asked). AllFollow g.K.Keeper (called_in asked c.args.now)) c.in-Upgrade.is c.requires.follows }
+
+pub returns-in-Upgrade-clause-told : goal.returns-in-Upgrade-clause-told
+returns-in-Upgrade-clause-told g c =
+    says g.K.Keeper c.args.what.now calls.Upgrade c.args.now c.args.self.now c.upgrade.new.self c.in-Upgrade.is (λ _. outcomes.Ok) upgrade_refused c.upgrade.result c.changed_over.result c.changed_over.ensures
+    (IfOk-weaker c.upgrade.result _ _ (λ _ has s there. ap (λ (t : Result Change UpgradeRefusal). (changed_over t).0) (sym (has s there).1)) c.upgrade.ensures.upgraded)
+    (λ s refusal there was. ap (λ (t : Result Change UpgradeRefusal). (changed_over t).0) (sym (c.upgrade.ensures.refused s refusal there was)))
+
+pub returns-in-Upgrade-clause-refused : goal.returns-in-Upgrade-clause-refused
+returns-in-Upgrade-clause-refused g c =
+    refuses_so g.K.Keeper c.args.what.now calls.Upgrade c.args.now c.args.self.now c.upgrade.new.self c.in-Upgrade.is (λ _. outcomes.Ok) upgrade_refused c.upgrade.result c.changed_over.result c.changed_over.ensures
+    (IfOk-weaker c.upgrade.result _ _ (λ _ has s there. ap (λ (t : Result Change UpgradeRefusal). (changed_over t).0) (sym (has s there).1)) c.upgrade.ensures.upgraded)
+    (λ s refusal there was. ap (λ (t : Result Change UpgradeRefusal). (changed_over t).0) (sym (c.upgrade.ensures.refused s refusal there was)))
+
+pub returns-in-Upgrade-clause-calls : goal.returns-in-Upgrade-clause-calls
+returns-in-Upgrade-clause-calls g c =
+    called g.K.Keeper c.args.what.now calls.Upgrade c.args.now c.args.self.now c.upgrade.new.self c.in-Upgrade.is (λ _. outcomes.Ok) upgrade_refused c.upgrade.result c.changed_over.result c.changed_over.ensures c.upgrade.ensures.calls

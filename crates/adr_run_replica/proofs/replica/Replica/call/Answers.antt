@@ -1,5 +1,6 @@
 use Rattle.std.proofs.Common.{◌∙◌, ap, refl, Err}
 use Rattle.adr_model.specs.Client.{call_meant}
+use Rattle.adr_model.proofs.Calling.{done_change}
 use Rattle.adr_run_replica.specs.Pending.{calling}
 use Rattle.adr_run_replica.proofs.Answered.{same_called}
 use Rattle.adr_run_replica.proofs.Came.{CameTo, came_to}
@@ -9,17 +10,19 @@ use Rattle.adr_law_controller.proofs.Follows.{called_follows}
 use Rattle.adr_run_replica.proofs.replica.Replica.call.Goals.{in-Ok, in-Err-Refused, in-Err-Hindered}
 use Rattle.adr_run_replica.proofs.replica.Replica.call.Goals as goal
 
-pub call-made-requires-clause-follows : goal.call-made-requires-clause-follows
-call-made-requires-clause-follows c = λ s ch formed makes.
-    let f = called_follows c.recorded_changes_leave_logged_states.ensures c.logged_states_fit.ensures c.writes_are_recorded.ensures c.collections_are_recorded.ensures c.args.what.now c.args.now c.requires.given c.requires.typed c.requires.supported c.ranges.now.fits s ch formed makes in
-    record { follows = f.follows; fits = f.fits; formed = f.formed }
+pub call-made-requires : goal.call-made-requires
+call-made-requires c = record {
+  follows = λ s ch formed makes.
+      let f = called_follows c.recorded_changes_leave_logged_states.ensures c.logged_states_fit.ensures c.writes_are_recorded.ensures c.collections_are_recorded.ensures c.upgrades_are_recorded.ensures c.args.what.now c.args.now c.requires.given c.requires.typed c.ranges.now.fits s ch formed makes in
+      record { follows = f.follows; fits = f.fits; formed = f.formed };
+}
 
 -- what the call came to, and how it ended
 came : (c : goal.Joined-made) → CameTo c.self.invariant c.args.self.now c.args.past.now (calling (call_meant c.args.what.now c.args.now)) c.settle-stopped.new.controller c.settle-stopped.new.kept c.settle-stopped.new.past c.hindrance_in-how.result
 came c =
-    came_to c.self.invariant c.goes_as_planned.ensures.in_order c.goes_as_planned.ensures.planned c.args.past.now (calling (call_meant c.args.what.now c.args.now)) (same_called c.args.what.now c.args.now)
+    came_to c.self.invariant c.goes_as_planned.ensures.in_order c.goes_as_planned.ensures.planned c.args.past.now (calling (call_meant c.args.what.now c.args.now)) (same_called (call_meant c.args.what.now c.args.now))
     (λ s ch formed makes.
-    let f = called_follows c.recorded_changes_leave_logged_states.ensures c.logged_states_fit.ensures c.writes_are_recorded.ensures c.collections_are_recorded.ensures c.args.what.now c.args.now c.requires.given c.requires.typed c.requires.supported c.ranges.now.fits s ch formed makes in
+    let f = called_follows c.recorded_changes_leave_logged_states.ensures c.logged_states_fit.ensures c.writes_are_recorded.ensures c.collections_are_recorded.ensures c.upgrades_are_recorded.ensures c.args.what.now c.args.now c.requires.given c.requires.typed c.ranges.now.fits s ch formed makes in
     record { follows = f.follows; fits = f.fits; formed = f.formed })
     c.self.view_is c.of-ahead.ensures.past c.of-ahead.ensures.kept c.settle-stopped.ensures.controller c.settle-stopped.ensures.kept c.settle-stopped.ensures.past c.hindrance_in-how.ensures c.call-made.ensures.calls
 
@@ -34,7 +37,7 @@ ended c = elim c.match-made.branch [
 ]
 
 pub returns-clause-called : goal.returns-clause-called
-returns-clause-called c = ok_called _ _ _ _ _ _ _ _ c.args.what.now c.args.now (came c) c.hindrance_in-how.ensures c.settle-stopped.ensures.stopped (ended c) c.call-made.ensures.told c.call-made.ensures.refused
+returns-clause-called c = ok_called _ _ _ _ _ _ _ _ (call_meant c.args.what.now c.args.now) (done_change c.args.self.now.safe c.args.what.now c.args.now) (came c) c.hindrance_in-how.ensures c.settle-stopped.ensures.stopped (ended c) c.call-made.ensures.told c.call-made.ensures.refused
 
 pub returns-clause-err : goal.returns-clause-err
 returns-clause-err c = call_undone _ _ _ _ _ _ _ _ (came c) c.hindrance_in-how.ensures (ended c)

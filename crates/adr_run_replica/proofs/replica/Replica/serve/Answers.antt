@@ -1,51 +1,15 @@
-use Rattle.std.proofs.Common.{◌∙◌, ap, arith, Err}
-use Rattle.adr_run_replica.specs.Pending.{serving}
-use Rattle.adr_run_replica.proofs.Answered.{same_served}
-use Rattle.adr_run_replica.proofs.Came.{CameTo, came_to}
-use Rattle.adr_run_replica.proofs.Calls.{ok_served, served_spelled, serve_undone}
-use Rattle.adr_run_replica.proofs.Ending.{EndsSent, SentMade, SentRefused, SentHindered}
-use Rattle.adr_law_controller.proofs.Follows.{served_follows}
-use Rattle.adr_run_replica.proofs.replica.Replica.serve.Goals.{in-Ok, in-Err-Refused, in-Err-Hindered}
+use Rattle.std.proofs.Common.{◌∙◌, ap, sym, subst}
+use Rattle.adr_model.specs.Serve.{serve}
+use Rattle.adr_model.specs.World.{after_serve, nothing, where_up}
+use Rattle.adr_run_replica.specs.Led.{LeadsAt}
+use Rattle.adr_run_replica.specs.Past.{Past}
 use Rattle.adr_run_replica.proofs.replica.Replica.serve.Goals as goal
-
-pub serve-made-requires : goal.serve-made-requires
-serve-made-requires c = record {
-  follows = λ now s ch formed makes.
-      let f = served_follows c.recorded_changes_leave_logged_states.ensures c.logged_states_fit.ensures c.quarantines_are_recorded.ensures c.args.request.now now s ch formed makes in
-      record { follows = f.follows; fits = f.fits; formed = f.formed };
-}
-
--- what the call came to, and how it ended
-came : (c : goal.Joined-made) → CameTo c.self.invariant c.args.self.now c.args.past.now (serving c.args.request.now) c.settle-stopped.new.controller c.settle-stopped.new.kept c.settle-stopped.new.past c.hindrance_in-how.result
-came c =
-    came_to c.self.invariant c.goes_as_planned.ensures.in_order c.goes_as_planned.ensures.planned c.args.past.now (serving c.args.request.now) (same_served c.args.request.now)
-    (λ s ch formed makes.
-    let f = served_follows c.recorded_changes_leave_logged_states.ensures c.logged_states_fit.ensures c.quarantines_are_recorded.ensures c.args.request.now 0 s ch formed makes in
-    record { follows = f.follows; fits = f.fits; formed = f.formed })
-    c.self.view_is c.of-ahead.ensures.past c.of-ahead.ensures.kept c.settle-stopped.ensures.controller c.settle-stopped.ensures.kept c.settle-stopped.ensures.past c.hindrance_in-how.ensures (c.serve-made.ensures.calls 0)
-
-pub invariant_of-self : goal.invariant_of-self
-invariant_of-self c = (came c).held
-
-ended : (c : goal.Joined-made) → EndsSent c.serve-made.result c.match-made.result c.settle-stopped.result
-ended c = elim c.match-made.branch [
-  | in-Ok w ↦ SentMade w.in-Ok.reply w.in-Ok.is w.sent.result w.result-is w.sent.ensures
-  | in-Err-Refused w ↦ SentRefused w.in-Err-Refused.refusal (w.in-Err-Refused.is ∙ ap Err w.in-Err-Refused.field-0-is) w.serve_refused.result w.result-is w.serve_refused.ensures
-  | in-Err-Hindered w ↦ SentHindered w.in-Err-Hindered.hindrance (w.in-Err-Hindered.is ∙ ap Err w.in-Err-Hindered.field-0-is) w.hindered.result (w.result-is ∙ w.unsent.ensures) w.hindered.ensures.ok w.hindered.ensures.err
-]
 
 pub returns-clause-served : goal.returns-clause-served
 returns-clause-served c =
-    ok_served _ _ _ _ _ _ _ _ c.args.request.now c.requires.version (came c) c.hindrance_in-how.ensures (ended c) c.serve-made.ensures.served c.settle-stopped.ensures.stopped c.serve-made.ensures.refused
-
-pub returns-clause-spelled : goal.returns-clause-spelled
-returns-clause-spelled c =
-    let s = c.args.self.now.safe in
-    served_spelled _ _ _ _ _ _ _ _ c.args.request.now c.requires.version (came c) c.hindrance_in-how.ensures (ended c) c.serve-made.ensures.served _
-    (λ reply there is. c.replies_are_in_range.ensures s c.args.request.now reply 0 (c.goes_as_planned.ensures.in_order.up s there).0.formed c.requires (omega arith) is)
-
-pub returns-clause-err : goal.returns-clause-err
-returns-clause-err c = serve_undone _ _ _ _ _ _ _ _ c.args.request.now c.requires.version (came c) c.hindrance_in-how.ensures (ended c) c.serve-made.ensures.served
+    let r = c.args.self.now in
+    subst (λ (p : Past). LeadsAt c.args.now r c.args.past.now (λ w. where_up (nothing w) r.standing (after_serve w r (serve r.safe c.args.request.now w.time))) c.answer.new.self p c.in_ok-sent.sent.0 c.in_ok-sent.sent.1)
+    (sym c.note.ensures) c.in_ok-sent.ensures.served
 
 pub returns-clause-given : goal.returns-clause-given
-returns-clause-given c = (came c).given
+returns-clause-given c = ap (λ (p : Past). p.given) c.note.ensures ∙ c.answer.ensures.given

@@ -14,8 +14,8 @@ pub returns-clause-stepped : goal.returns-clause-stepped
 returns-clause-stepped c =
     let w = world_of c.args.self.now in
     let sent = c.in_ok-sent.sent in
-    on_ok_as c.bind.result sent.0 (λ (o : Outcome). step w (Ask c.args.name.now c.args.partner.now c.args.max 1 c.args.bound.now) ≡ told (codes "ask") c.args.name.now (record w { requests = c.bind.new.self }, o)) c.bind.ensures.outcome c.bind.ensures.ok
-    (λ made. bound_so (codes "ask") c.args.name.now (asks w c.args.name.now c.args.partner.now c.args.max 1) (λ v q. record v { requests = bound v.requests c.args.bound.now q }) w sent.0 sent.1
+    on_ok_as c.bind.result sent.0 (λ (o : Outcome). step w (Ask c.args.name.now c.args.partner.now c.args.max c.args.version c.args.bound.now) ≡ told (codes "ask") c.args.name.now (record w { requests = c.bind.new.self }, o)) c.bind.ensures.outcome c.bind.ensures.ok
+    (λ made. bound_so (codes "ask") c.args.name.now (asks w c.args.name.now c.args.partner.now c.args.max c.args.version) (λ v q. record v { requests = bound v.requests c.args.bound.now q }) w sent.0 sent.1
     c.in_ok-sent.ensures.asked
     ∙ ap (λ xs. told (codes "ask") c.args.name.now (record w { requests = xs }, sent.0)) (sym made))
 

@@ -44,8 +44,8 @@ returns-in-Err-Refused-clause-stepped c =
     let un = c.in-Err-Refused.ensures.other o (ap Err c.in-Err-Refused.field-0-is) in
     installed_step w c.args.name.now c.args.dsa c.args.image.now c.args.inv o (gives w (c.args.dsa ∷ []) (c.args.inv ∷ []))
     (un (gives w (c.args.dsa ∷ []) (c.args.inv ∷ [])) (λ r. w.replicas ++ r ∷ []))
-    ∙ ap (λ (p : Past). told (codes "install") c.args.name.now (record w { book = p.book; given = p.given }, o)) (sym c.give.ensures)
-    ∙ ap (λ rs. told (codes "install") c.args.name.now (record w { book = c.give.new.self.book; replicas = rs; given = c.give.new.self.given }, o)) (sym c.reserve.ensures.items)
+    ∙ ap (λ (p : Past). told (codes "install") c.args.name.now (record w { book = p.book; last_replies = p.last_replies; given = p.given }, o)) (sym c.give.ensures)
+    ∙ ap (λ rs. told (codes "install") c.args.name.now (record w { book = c.give.new.self.book; last_replies = c.give.new.self.last_replies; replicas = rs; given = c.give.new.self.given }, o)) (sym c.reserve.ensures.items)
 
 pub returns-in-Err-Refused-clause-tidy : goal.returns-in-Err-Refused-clause-tidy
 returns-in-Err-Refused-clause-tidy c = record {

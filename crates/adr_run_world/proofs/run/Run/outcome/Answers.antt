@@ -1,11 +1,12 @@
 use Rattle.std.proofs.Common.{◌≡◌, ◌∙◌, ap, subst, codes}
-use Rattle.adr_call.specs.declared.event.Event.TheVariants.{Ask}
-use Rattle.adr_call.specs.Supported.{IsSupported}
 use Rattle.adr_call.specs.Verbs.{verb_of_call, verb_of_report, word_of}
 use Rattle.adr_law_recorded.specs.Typed.{IsTyped}
 use Rattle.adr_model.specs.Convergence.{MayHappen}
 use Rattle.adr_model.specs.Step.{told}
-use Rattle.adr_model.specs.World.{bound_at, delivers, of_controller, of_made, put_back, replica_at, reported, starts, stays, does}
+use Rattle.adr_model.specs.Replica.{ToWrite}
+use Rattle.adr_model.specs.Store.{Store}
+use Rattle.adr_model.specs.Write.{Revive}
+use Rattle.adr_model.specs.World.{Gone, bound_at, delivers, of_controller, of_image, of_made, put_back, replica_at, reported, starts, stays, does}
 use Rattle.adr_model.specs.Client.{call_meant}
 use Rattle.adr_run_world.specs.Run.{world_of}
 use Rattle.adr_run_world.proofs.Answered.{call_so, line_so, one_so}
@@ -13,6 +14,9 @@ use Rattle.adr_run_world.proofs.run.Run.outcome.Goals as goal
 
 pub ask-requires-clause-unbound : goal.ask-requires-clause-unbound
 ask-requires-clause-unbound c = subst (MayHappen (world_of c.args.self.now)) c.in-Ask.is c.requires.may
+
+pub ask-requires-clause-version : goal.ask-requires-clause-version
+ask-requires-clause-version c = subst IsTyped c.in-Ask.is c.requires.typed
 
 pub serve-requires-clause-unbound : goal.serve-requires-clause-unbound
 serve-requires-clause-unbound c = subst (MayHappen (world_of c.args.self.now)) c.in-Serve.is c.requires.may
@@ -32,9 +36,6 @@ called-requires-clause-given c = subst (MayHappen (world_of c.args.self.now)) c.
 pub called-requires-clause-typed : goal.called-requires-clause-typed
 called-requires-clause-typed c = subst IsTyped c.in-Calls.is c.requires.typed
 
-pub called-requires-clause-supported : goal.called-requires-clause-supported
-called-requires-clause-supported c = subst IsSupported c.in-Calls.is c.requires.supported
-
 pub returns-in-Calls-clause-stepped : goal.returns-in-Calls-clause-stepped
 returns-in-Calls-clause-stepped c =
     let w = world_of c.args.self.now in
@@ -43,9 +44,7 @@ returns-in-Calls-clause-stepped c =
 
 pub returns-in-Ask-clause-stepped : goal.returns-in-Ask-clause-stepped
 returns-in-Ask-clause-stepped c =
-    let first : c.in-Ask.version ≡ 1 = subst IsSupported c.in-Ask.is c.requires.supported in
-    line_so (world_of c.args.self.now) (world_of c.ask.new.self) c.args.event.now _ c.ask.result
-    (c.in-Ask.is ∙ ap (λ v. Ask c.in-Ask.name c.in-Ask.partner c.in-Ask.max v c.in-Ask.bound) first) c.ask.ensures.stepped
+    line_so (world_of c.args.self.now) (world_of c.ask.new.self) c.args.event.now _ c.ask.result c.in-Ask.is c.ask.ensures.stepped
 
 pub returns-in-Serve-clause-stepped : goal.returns-in-Serve-clause-stepped
 returns-in-Serve-clause-stepped c = line_so (world_of c.args.self.now) (world_of c.serve.new.self) c.args.event.now _ c.serve.result c.in-Serve.is c.serve.ensures.stepped
@@ -55,6 +54,22 @@ returns-in-Deliver-clause-stepped c =
     let w = world_of c.args.self.now in
     line_so w (world_of c.take_bound.new.self) c.args.event.now _ c.take_bound.result c.in-Deliver.is
     (call_so (codes "deliver") c.in-Deliver.name (delivers w c.in-Deliver.name (bound_at w.replies c.in-Deliver.reply)) (world_of c.take_bound.new.self) c.take_bound.result c.take_bound.ensures.taken)
+
+pub revive-requires-clause-guid : goal.revive-requires-clause-guid
+revive-requires-clause-guid c = (subst IsTyped c.in-Revive.is c.requires.typed).0
+
+pub revive-requires-clause-parent : goal.revive-requires-clause-parent
+revive-requires-clause-parent c = (subst IsTyped c.in-Revive.is c.requires.typed).1
+
+pub revive-requires-clause-text : goal.revive-requires-clause-text
+revive-requires-clause-text c = (subst IsTyped c.in-Revive.is c.requires.typed).2
+
+pub returns-in-Revive-clause-stepped : goal.returns-in-Revive-clause-stepped
+returns-in-Revive-clause-stepped c =
+    let w = world_of c.args.self.now in
+    let revives : Store → Gone = λ i. does w c.in-Revive.name (ToWrite (Revive i c.in-Revive.guid c.in-Revive.parent c.in-Revive.text) w.time) in
+    line_so w (world_of c.revive.new.self) c.args.event.now _ c.revive.result c.in-Revive.is
+    (call_so (codes "revive") c.in-Revive.name (of_image w (bound_at w.images c.in-Revive.image) revives) (world_of c.revive.new.self) c.revive.result c.revive.ensures.revived)
 
 pub returns-in-Backup-clause-stepped : goal.returns-in-Backup-clause-stepped
 returns-in-Backup-clause-stepped c = line_so (world_of c.args.self.now) (world_of c.backup.new.self) c.args.event.now _ c.backup.result c.in-Backup.is c.backup.ensures.stepped

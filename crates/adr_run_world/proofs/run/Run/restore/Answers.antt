@@ -14,7 +14,7 @@ pub returns-in_default-clause-stepped : goal.returns-in_default-clause-stepped
 returns-in_default-clause-stepped c =
     let w = world_of c.args.self.now in
     restore_absent w c.args.name.now c.args.image.now c.args.inv c.in_default.ensures.none
-    ∙ ap (λ (p : Past). told (codes "restore") c.args.name.now (record w { book = p.book; given = p.given }, outcomes.Absent)) (sym c.give_inv.ensures)
+    ∙ ap (λ (p : Past). told (codes "restore") c.args.name.now (record w { book = p.book; last_replies = p.last_replies; given = p.given }, outcomes.Absent)) (sym c.give_inv.ensures)
 
 pub begin_at-requires-clause-up : goal.begin_at-requires-clause-up
 begin_at-requires-clause-up c =
@@ -53,4 +53,4 @@ returns-in-Err-Refused-clause-stepped c =
     (found_there c.args.self.now c.args.name.now c.in-Some.place c.index.result.now c.in-Some.ensures.place c.index.ensures c.in-Some.ensures.found)
     (subst (λ k. adoption w.images c.args.image.now c.args.name.now k c.args.inv (gives w [] (c.args.inv ∷ [])) (with_replica w.replicas) ≡ (gives w [] (c.args.inv ∷ []), o)) c.dsa-dsa.ensures
     (un (gives w [] (c.args.inv ∷ [])) (with_replica w.replicas)))
-    ∙ ap (λ (p : Past). told (codes "restore") c.args.name.now (record w { book = p.book; given = p.given }, o)) (sym c.give_inv-in-Err-Refused.ensures)
+    ∙ ap (λ (p : Past). told (codes "restore") c.args.name.now (record w { book = p.book; last_replies = p.last_replies; given = p.given }, o)) (sym c.give_inv-in-Err-Refused.ensures)

@@ -8,7 +8,9 @@ use Rattle.adr_model.specs.Serve.{Reply}
 use Rattle.adr_model.specs.Step.{step, told}
 use Rattle.adr_model.specs.World.{bound_at, nothing, served, serves_request}
 use Rattle.adr_answers.proofs.Results.{on_err}
-use Rattle.adr_run_world.specs.Run.{AreSpelled, world_of}
+use Rattle.adr_run_replica.specs.Past.{Past}
+use Rattle.adr_run_world.specs.declared.run.Run.{Run}
+use Rattle.adr_run_world.specs.Run.{IsTidy, with_past, world_of}
 use Rattle.adr_run_world.proofs.Becoming.{Becomes, run_with, found_there, stands, undone, apart_with, led_to, tidy_with}
 use Rattle.adr_run_world.proofs.Bindings.{each_bound, request_ranged, served_step}
 use Rattle.adr_run_world.proofs.Calls.{no_request_so, reaches_none, sent_keeps}
@@ -41,40 +43,39 @@ returns-in_err-sent-clause-err c =
 pub returns-in_err-sent-clause-tidy : goal.returns-in_err-sent-clause-tidy
 returns-in_err-sent-clause-tidy c = tidy_with (becomes_short c) refl refl refl
 
-becomes : (c : goal.After-bind) → Becomes c.args.self.now c.args.name.now c.in-Some.place c.index_mut.result.now c.serve.new.self c.serve.new.past
+becomes : (c : goal.After-bind_reply) → Becomes c.args.self.now c.args.name.now c.in-Some.place c.index_mut.result.now c.serve.new.self c.serve.new.past
 becomes c = record { place = c.in-Some.ensures.place; read = c.index_mut.ensures.value; found = c.in-Some.ensures.found; tidy = c.requires.tidy; named = c.serve.ensures.name; given = c.serve.ensures.given }
+
+-- what the request came to
+sends : (c : goal.After-bind_reply)
+    → let w = world_of c.args.self.now in
+    serves_request w c.args.name.now (Some c.in-Some-get.request.now) ≡ (run_with c.args.self.now c.in-Some.place c.serve.new.self c.serve.new.past, c.in_ok-sent.sent.0, c.in_ok-sent.sent.1)
+sends c =
+    let w = world_of c.args.self.now in
+    led_to (becomes c) (λ r. served w r (Some c.in-Some-get.request.now)) c.in_ok-sent.sent.0 c.in_ok-sent.sent.1 (c.in_ok-sent.ensures.served w refl (stands (becomes c)))
 
 pub returns-clause-err : goal.returns-clause-err
 returns-clause-err c =
     let w = world_of c.args.self.now in
     let v = run_with c.args.self.now c.in-Some.place c.serve.new.self c.serve.new.past in
     let sent = c.in_ok-sent.sent in
-    on_err_both c.bind.result c.bind.ensures.err c.bind.ensures.some
-    (λ same some. ap (λ rs. record v { replies = rs }) same
-    ∙ sent_keeps w c.args.name.now c.in-Some-get.request.now (request_ranged c.args.self.now.requests c.args.request.now c.in-Some-get.request.now c.requires.tidy.requests c.in-Some-get.ensures).version v sent.0 sent.1 some
-    (led_to (becomes c)
-    (λ r. served w r (Some c.in-Some-get.request.now)) sent.0 sent.1
-    (c.in_ok-sent.ensures.served w (stands (becomes c)))))
+    on_err_both c.bind_reply.result c.bind_reply.ensures.err c.bind_reply.ensures.some
+    (λ same some. ap world_of same ∙ sent_keeps w c.again-before.result c.args.name.now c.in-Some-get.request.now v sent.0 sent.1 some (sends c) ∙ ap (λ (p : Past). with_past p w) c.again-before.ensures)
 
 pub returns-clause-stepped : goal.returns-clause-stepped
 returns-clause-stepped c =
     let w = world_of c.args.self.now in
     let v = run_with c.args.self.now c.in-Some.place c.serve.new.self c.serve.new.past in
     let sent = c.in_ok-sent.sent in
-    on_ok_as c.bind.result sent.0 (λ (o : Outcome). step w (Serve c.args.name.now c.args.request.now c.args.bound.now) ≡ told (codes "serve") c.args.name.now (record v { replies = c.bind.new.self }, o)) c.bind.ensures.outcome c.bind.ensures.ok
-    (λ made. served_step w c.args.name.now c.args.request.now c.args.bound.now v sent.0 sent.1
-    (ap (serves_request w c.args.name.now) (sym c.in-Some-get.ensures)
-    ∙ led_to (becomes c)
-    (λ r. served w r (Some c.in-Some-get.request.now)) sent.0 sent.1
-    (c.in_ok-sent.ensures.served w (stands (becomes c))))
-    ∙ ap (λ rs. told (codes "serve") c.args.name.now (record v { replies = rs }, sent.0)) (sym made))
+    on_ok_as c.bind_reply.result sent.0 (λ (o : Outcome). step w (Serve c.args.name.now c.args.request.now c.args.bound.now) ≡ told (codes "serve") c.args.name.now (world_of c.bind_reply.new.self, o)) c.bind_reply.ensures.outcome c.bind_reply.ensures.ok
+    (λ made. served_step w c.args.name.now c.args.request.now c.args.bound.now v sent.0 sent.1 (ap (serves_request w c.args.name.now) (sym c.in-Some-get.ensures) ∙ sends c)
+    ∙ ap (λ (r : Run). told (codes "serve") c.args.name.now (world_of r, sent.0)) (sym made))
 
 pub returns-clause-tidy : goal.returns-clause-tidy
-returns-clause-tidy c = record {
-  apart = apart_with (becomes c);
-  requests = c.requires.tidy.requests;
-  replies = either_so c.bind.result (AreSpelled c.bind.new.self) c.bind.ensures.ok c.bind.ensures.err
-      (λ made. subst AreSpelled (sym made)
-      (each_bound (λ (p : Reply). IsSpelledReply p × IsRangedReply p) c.args.self.now.replies c.args.bound.now c.in_ok-sent.sent.1 c.requires.tidy.replies c.in_ok-sent.ensures.spelled))
-      (λ same. subst AreSpelled (sym same) c.requires.tidy.replies);
-}
+returns-clause-tidy c = either_so c.bind_reply.result (IsTidy c.bind_reply.new.self) c.bind_reply.ensures.ok c.bind_reply.ensures.err
+    (λ made. subst IsTidy (sym made) (record {
+      apart = apart_with (becomes c);
+      requests = c.requires.tidy.requests;
+      replies = each_bound (λ (p : Reply). IsSpelledReply p × IsRangedReply p) c.args.self.now.replies c.args.bound.now c.in_ok-sent.sent.1 c.requires.tidy.replies c.in_ok-sent.ensures.spelled;
+    }))
+    (λ same. subst IsTidy (sym same) (record { apart = apart_with (becomes c); requests = c.requires.tidy.requests; replies = c.requires.tidy.replies }))

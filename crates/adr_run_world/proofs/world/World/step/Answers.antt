@@ -3,6 +3,7 @@ use Rattle.std.proofs.Common.{◌≡◌, true, sym, subst}
 use Rattle.adr_model.specs.Convergence.{AreAcknowledged, MayHappen}
 use Rattle.adr_model.specs.Step.{step}
 use Rattle.adr_law_convergence.proofs.Controllers.{shows_what_is_visible, equal_coverage_shows, own_is_visible}
+use Rattle.adr_law_convergence.proofs.Traced.{times_are_true}
 use Rattle.adr_run_world.specs.Door.{IsCompletedBy}
 use Rattle.adr_run_world.specs.Rung.{IsRungBy}
 use Rattle.adr_run_world.specs.Run.{world_of}
@@ -21,6 +22,9 @@ returns-in_err-step-clause-equal g c clean = equal_coverage_shows (world_of c.st
 pub returns-in_err-step-clause-own : goal.returns-in_err-step-clause-own
 returns-in_err-step-clause-own g c clean = own_is_visible (world_of c.step.new.self) (c.step.ensures.sound.of_run.sound clean)
 
+pub returns-in_err-step-clause-told_times : goal.returns-in_err-step-clause-told_times
+returns-in_err-step-clause-told_times g c clean = times_are_true (world_of c.step.new.self) (c.step.ensures.sound.of_run.sound clean)
+
 pub returns-clause-sound : goal.returns-clause-sound
 returns-clause-sound g c = c.step.ensures.sound.of_run
 
@@ -32,6 +36,9 @@ returns-clause-equal g c clean = equal_coverage_shows (world_of c.step.new.self)
 
 pub returns-clause-own : goal.returns-clause-own
 returns-clause-own g c clean = own_is_visible (world_of c.step.new.self) (c.step.ensures.sound.of_run.sound clean)
+
+pub returns-clause-told_times : goal.returns-clause-told_times
+returns-clause-told_times g c clean = times_are_true (world_of c.step.new.self) (c.step.ensures.sound.of_run.sound clean)
 
 pub returns-clause-acknowledged : goal.returns-clause-acknowledged
 returns-clause-acknowledged g c clean =

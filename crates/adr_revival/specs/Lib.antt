@@ -1,0 +1,3 @@
+pub mod Archived
+pub mod Parts
+pub mod Found
