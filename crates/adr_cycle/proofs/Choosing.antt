@@ -38,7 +38,7 @@ held_unit hs unit m = mapped_member of_row hs unit (⊎_elim (λ n. n) (λ n. ab
 unit_held : (hs : List Held) (h : Held) → Member h hs → Member (of_row h) (units_of hs)
 unit_held hs h m = in_sorted unit_order units_total exact_units (map of_row hs) [] (of_row h) (member_mapped of_row hs h m)
 
-units_rise : (hs : List Held) → Rises unit_order (units_of hs)
+pub units_rise : (hs : List Held) → Rises unit_order (units_of hs)
 units_rise hs = sorted_rises unit_order units_total exact_units (map of_row hs) [] tt
 
 is_own_unit : (unit : Named) → same_unit unit unit ≡ true

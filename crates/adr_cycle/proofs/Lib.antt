@@ -1,6 +1,7 @@
 pub mod Firsts
 pub mod Numbered
 pub mod Choosing
+pub mod Lefts
 pub mod Cutting
 pub mod Replies
 mod Deciding

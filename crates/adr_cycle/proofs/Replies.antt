@@ -1,13 +1,12 @@
 -- A reply from what its parts are read from.
-use Rattle.std.proofs.Common.{◌≡◌, ◌∙◌, ℕ, ◌≤◌, List, [], Bool, true, false, cond, ◌&&◌, ◌==◌, Option, is_none, is_some, map, refl, sym, ap, subst, length, None, Some}
+use Rattle.std.proofs.Common.{◌≡◌, ◌∙◌, ℕ, ◌≤◌, List, Bool, ◌==◌, Option, is_none, map, sym, ap, subst, length}
 use Rattle.std.specs.Bool.{then_some}
 use Rattle.adr_values.specs.Vector.{Cursors}
 use Rattle.adr_values.specs.declared.mark.Mark.{Mark}
 use Rattle.adr_model.specs.Change.{Item}
 use Rattle.adr_model.specs.Update.{Identifier}
 use Rattle.adr_model.specs.Store.{Held, State}
-use Rattle.adr_model.specs.Serve.{Request, Reply, begins_at, byte_limit, candidates, first_items, reply_of, reply_to, times_told}
-use Rattle.adr_model.specs.Take.{times_brought}
+use Rattle.adr_model.specs.Serve.{Request, Reply, begins_at, byte_limit, candidates, first_items, reply_of, reply_to}
 use Rattle.adr_cycle.proofs.Choosing.{candidates_rise}
 use Rattle.adr_cycle.proofs.Cutting.{cut, last_number}
 use Rattle.adr_cycle.proofs.Numbered.{next}

@@ -1,5 +1,6 @@
--- The items that may be sent, looked up one by one.
-use Rattle.std.specs.Prelude.{ℕ, List, [], ◌∷◌, Option, Some, None, filter, find, nat_lt}
+-- The items that may be sent, looked up one by one, and the units that are left meanwhile.
+use Rattle.std.specs.Prelude.{◌≡◌, ◌+◌, ◌≤◌, ℕ, List, [], ◌∷◌, Option, Some, None, filter, find, nat_lt}
+use Rattle.std.specs.Option.{option_map_or}
 use Rattle.std.specs.Ordering.{nat_cmp}
 use Rattle.std.specs.Map.{lookup}
 use Rattle.std.specs.BTreeMap.{is_at}
@@ -10,6 +11,7 @@ use Rattle.adr_model.specs.Store.{Held, updates_of}
 use Rattle.adr_model.specs.Change.{Item}
 use Rattle.adr_model.specs.Serve.{candidates, is_unseen}
 use Rattle.adr_update.specs.Sought.{rows_of_unit}
+use Rattle.adr_table.specs.Lasts.{AreLasts, Last}
 
 -- the rows of a unit that the asker may lack
 abbrev pub unseen_of : List Held → Mark → Cursors → Named → List Held
@@ -27,3 +29,14 @@ candidate_at rows from asked usn = lookup (is_at (nat_cmp usn)) (candidates rows
 -- the first item behind a number, with its own
 abbrev pub next_candidate : List Held → Mark → Cursors → ℕ → Option (ℕ × Item)
 next_candidate rows from asked usn = find (λ (e : ℕ × Item). nat_lt usn e.0) (candidates rows from asked)
+
+-- the units that are left are those behind a number, and no item is between that and this one
+pub record AreBehind (rows : List Held) (from : Mark) (asked : Cursors) (usn : ℕ) (left : List Last) : Type 0 where
+  pub passed : ℕ
+  pub above : from.obj ≤ passed
+  pub lasts : AreLasts rows (passed + 1) left
+  pub same : next_candidate rows from asked passed ≡ next_candidate rows from asked usn
+
+-- the number of an item, or the one before it where there is none
+abbrev pub number_after : ℕ → Option (ℕ × Item) → ℕ
+number_after usn next = option_map_or (λ (c : ℕ × Item). c.0) next usn

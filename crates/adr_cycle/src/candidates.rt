@@ -1,65 +1,59 @@
 //! The items that may be sent, one after the other: what the asker may lack, of the units above its mark.
 
-ghost use Rattle.std.specs.Prelude.{◌≡◌, ◌<◌, ◌≤◌, ◌&&◌, IfOk, filter, is_none};
+ghost use Rattle.std.specs.Prelude.{◌≡◌, ◌+◌, ◌<◌, ◌&&◌, IfOk, OnOk, Some, filter, length, slice_get};
+ghost use Rattle.std.specs.Option.{option_map};
 ghost use Rattle.adr_model.specs.Serve.{is_unseen};
 ghost use Rattle.adr_update.specs.Referents.{referents};
-ghost use Rattle.adr_cycle.specs.Candidates.{candidate_at, next_candidate, some_item, unseen_of};
+ghost use Rattle.adr_table.specs.Lasts.{AreLasts, Last};
+ghost use Rattle.adr_cycle.specs.Candidates.{AreBehind, candidate_at, next_candidate, number_after, some_item, unseen_of};
 
 use crate::NoMemory;
 use crate::candidate::Candidate;
-use adr_state::{Held, Rows, covers_update};
+use adr_state::{Held, Rows, Walk, covers_update};
 use adr_values::{Mark, Unit, Vector};
 use std::alloc::Global;
 
 /// The first item that may be sent behind a number. Its own number is the last local update sequence number of its
-/// unit.
+/// unit. It is found among the units that are left, and passes those up to its own.
 pub fn next_candidate<'a>(
     alloc: Global,
     rows: &'a Rows,
     from: Mark,
     asked: &Vector,
+    walk: &mut Walk<'_>,
     usn: u64,
 ) -> Result<Option<(u64, Candidate<'a>)>, NoMemory>
-    requires { from.obj ≤ usn }
-    ensures { IfOk result (λ next. next ≡ next_candidate rows.now from asked.now usn) }
+    requires { AreBehind rows.now from asked.now usn walk.old }
+    ensures next { IfOk result (λ next. next ≡ next_candidate rows.now from asked.now usn) }
+    ensures left { IfOk result (λ next. AreBehind rows.now from asked.now (number_after usn next) walk.new) }
 {
-    let mut passed = usn;
-    while let Some(local) = rows.next_local(passed) {
-        if let Some(candidate) = candidate_at(alloc, rows, from, asked, local)? {
+    while let Some(local) = walk.number() {
+        if let Some(candidate) = candidate_at(alloc, rows, from, asked, walk, local)? {
             return Ok(Some((local, candidate)));
         }
-        passed = local;
     }
     Ok(None)
 }
 
-/// Whether no item that may be sent is behind a number.
-pub fn is_none_behind(
-    alloc: Global,
-    rows: &Rows,
-    from: Mark,
-    asked: &Vector,
-    usn: u64,
-) -> Result<bool, NoMemory>
-    requires { from.obj ≤ usn }
-    ensures { IfOk result (λ none. none ≡ is_none (next_candidate rows.now from asked.now usn)) }
-{
-    Ok(next_candidate(alloc, rows, from, asked, usn)?.is_none())
-}
-
-/// The item under a number: of the units with this number, that of the last one of which the asker may lack rows.
+/// The item under the number of the next unit: of the units with this number, that of the last one of which the asker may
+/// lack rows.
 fn candidate_at<'a>(
     alloc: Global,
     rows: &'a Rows,
     from: Mark,
     asked: &Vector,
+    walk: &mut Walk<'_>,
     usn: u64,
 ) -> Result<Option<Candidate<'a>>, NoMemory>
-    requires { from.obj < usn }
-    ensures { IfOk result (λ item. item ≡ candidate_at rows.now from asked.now usn) }
+    requires above { from.obj < usn }
+    requires lasts { AreLasts rows.now usn walk.old }
+    requires first { option_map (λ (e : Last). e.0) (slice_get walk.old 0) ≡ Some usn }
+    ensures item { IfOk result (λ item. item ≡ candidate_at rows.now from asked.now usn) }
+    ensures lasts { OnOk result (AreLasts rows.now (usn + 1) walk.new) }
+    ensures fewer { OnOk result (length walk.new < length walk.old) }
 {
     let mut last = None;
-    for unit in rows.units_at(alloc, usn)? {
+    while let Some(unit) = walk.next_at(usn) {
         let candidate = candidate_of(alloc, rows, from, asked, unit)?;
         last = candidate.or(last);
     }

@@ -3,11 +3,12 @@
 ghost use Rattle.std.specs.Prelude.{◌≡◌, ℕ, [], ◌&&◌, ◌==◌, fold, map, IfOk, if◌then◌else◌};
 ghost use Rattle.std.specs.Bool.{then_some};
 ghost use Rattle.adr_model.specs.Change.{Item as Defined};
+ghost use Rattle.adr_cycle.specs.Candidates.{AreBehind};
 ghost use Rattle.adr_model.specs.Serve.{begins_at, byte_limit, candidates, first_items, reply_of, reply_to, times_told};
 
-use crate::candidates::{is_none_behind, next_candidate};
+use crate::candidates::next_candidate;
 use crate::{NoMemory, Reply, Request};
-use adr_state::{Item, PartnerMark, Rows, State, item_length_within};
+use adr_state::{Item, PartnerMark, Rows, State, Walk, item_length_within};
 use adr_values::{Mark, Times, Vector};
 use std::alloc::Global;
 
@@ -28,9 +29,11 @@ pub fn reply_to(
 {
     let from = begins_at(state, request);
     let asked = request.vector();
-    let sent = first_items(alloc, state.rows(), from, asked, request.max())?;
+    let rows = state.rows();
+    let mut walk = rows.walk(from.obj);
+    let sent = first_items(alloc, rows, from, asked, &mut walk, request.max())?;
     let last = last_sent(from.obj, sent.as_slice());
-    let is_last = is_none_behind(alloc, state.rows(), from, asked, last)?;
+    let is_last = next_candidate(alloc, rows, from, asked, &mut walk, last)?.is_none();
     reply_of(alloc, state, request, now, from, sent, is_last)
 }
 
@@ -41,21 +44,26 @@ pub fn begins_at(state: &State, request: &Request) -> Mark
     PartnerMark::new(request.inv(), request.mark()).mark_of(state.inv())
 }
 
-/// The first items: until there are so many, or so many bytes or more.
+/// The first items: until there are so many, or so many bytes or more. The units that are left behind them stay to look at.
 fn first_items(
     alloc: Global,
     rows: &Rows,
     from: Mark,
     asked: &Vector,
+    walk: &mut Walk<'_>,
     mut most: u32,
 ) -> Result<Vec<(u64, Item)>, NoMemory>
-    ensures { IfOk result (λ sent. sent.items ≡ first_items most byte_limit (candidates rows.now from asked.now)) }
+    requires { AreBehind rows.now from asked.now from.obj walk.old }
+    ensures sent { IfOk result (λ sent.
+        sent.items ≡ first_items most byte_limit (candidates rows.now from asked.now)) }
+    ensures left { IfOk result (λ sent.
+        AreBehind rows.now from asked.now (fold (λ n (c : ℕ × Defined). c.0) from.obj sent.items) walk.new) }
 {
     let mut bytes = BYTE_LIMIT;
     let mut last = from.obj;
     let mut sent = Vec::new(alloc);
     while most > 0 && bytes > 0 {
-        let Some((local, candidate)) = next_candidate(alloc, rows, from, asked, last)? else {
+        let Some((local, candidate)) = next_candidate(alloc, rows, from, asked, walk, last)? else {
             break;
         };
         let item = candidate.item(alloc)?;

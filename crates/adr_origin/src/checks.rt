@@ -1,23 +1,22 @@
 //! The tests that a write has to pass, each with its refusal.
 
-ghost use Rattle.std.specs.Prelude.{◌≡◌, ◌≢◌, ◌||◌, ◌+◌, ◌<◌, IsSome, OnOk, false, length};
-ghost use Rattle.std.specs.Option.{option_map};
+ghost use Rattle.std.specs.Prelude.{◌≡◌, ◌≢◌, ◌==◌, ◌||◌, ◌+◌, ◌<◌, IsSome, OnOk, false, length};
+ghost use Rattle.std.specs.Option.{option_copied, option_map};
 ghost use Rattle.std.specs.Result.{result_err};
-ghost use Rattle.adr_call.specs.declared.refusal.WriteRefusal.TheVariants.{GuidThere as guid_there, Quarantined as quarantined, Schema as breaks_schema};
+ghost use Rattle.adr_call.specs.declared.refusal.WriteRefusal.TheVariants.{GuidThere as guid_there, Quarantined as quarantined, Schema as breaks_schema, VersionLimit as at_version_limit};
 ghost use Rattle.adr_call.specs.declared.refusal.Table.TheVariants.{Objects as objects};
 ghost use Rattle.adr_values.specs.First.{first_of};
 ghost use Rattle.adr_model.specs.Live.{objects_of};
 ghost use Rattle.adr_model.specs.Place.{is_fixed, node_at};
 ghost use Rattle.adr_model.specs.Serve.{is_quarantined};
-ghost use Rattle.adr_model.specs.Store.{row_held, updates_of};
-ghost use Rattle.adr_model.specs.Write.{cursor_refusal, fixed_refusal, full_refusal, holds_guid, live_refusals, nodes_held, object_limit, object_refusal, usn_limit, usn_refusal, version_limit, version_of, version_refusal};
+ghost use Rattle.adr_model.specs.Store.{updates_of};
+ghost use Rattle.adr_model.specs.Write.{cursor_refusal, fixed_refusal, full_refusal, holds_guid, live_refusals, nodes_held, object_limit, object_refusal, usn_limit, usn_refusal, version_limit, version_of};
 ghost use Rattle.std.specs.Bool.{then_some};
-ghost use Rattle.adr_update.specs.Key.{key_of};
 ghost use Rattle.adr_change.specs.Mode.{mode_of};
 
 use crate::stamps::version_of;
 use adr_call::{Table, WriteRefusal};
-use adr_state::{CURSOR_LIMIT, Key, Mode, OBJECT_LIMIT, Rows, State, USN_LIMIT, VERSION_LIMIT};
+use adr_state::{CURSOR_LIMIT, Held, Mode, OBJECT_LIMIT, Rows, State, USN_LIMIT, VERSION_LIMIT};
 use adr_update::is_fixed;
 use adr_values::{Guid, SchemaRefusal};
 
@@ -61,13 +60,14 @@ pub fn check_object(state: &State, guid: Guid) -> Result<(), WriteRefusal>
         ≡ object_refusal (updates_of state.now.store.rows) (nodes_held (updates_of state.now.store.rows)) guid }
     ensures live { OnOk result (IsSome (node_at (nodes_held (updates_of state.now.store.rows)) guid)) }
 {
-    if !state.rows().holds_guid(guid) {
-        return Err(WriteRefusal::NoObject { guid });
+    if state.rows().node(guid).is_some() {
+        return Ok(());
     }
-    if state.rows().node(guid).is_none() {
-        return Err(WriteRefusal::Deleted { guid });
+    if state.rows().holds_guid(guid) {
+        Err(WriteRefusal::Deleted { guid })
+    } else {
+        Err(WriteRefusal::NoObject { guid })
     }
-    Ok(())
 }
 
 /// Tests that a controller takes writes, and that a GUID is that of a live object, but not of the root or of LostAndFound.
@@ -88,12 +88,13 @@ pub fn check_schema(tested: Result<(), SchemaRefusal>) -> Result<(), WriteRefusa
     tested.map_err(WriteRefusal::Schema)
 }
 
-/// Tests that the version of a row can rise.
-pub fn check_version(rows: &Rows, key: Key, attr: u16) -> Result<(), WriteRefusal>
-    ensures told { result_err result ≡ version_refusal rows.now (key_of key) attr }
-    ensures room { OnOk result (version_of (row_held rows.now (key_of key)) ≢ version_limit) }
+/// Tests that the version of a row can rise, if it's held.
+pub fn check_version(held: Option<&Held>, attr: u16) -> Result<(), WriteRefusal>
+    ensures told { result_err result
+        ≡ then_some (version_of (option_copied held.entry) == version_limit) (at_version_limit attr) }
+    ensures room { OnOk result (version_of (option_copied held.entry) ≢ version_limit) }
 {
-    if version_of(rows.row(key)) == VERSION_LIMIT {
+    if version_of(held) == VERSION_LIMIT {
         Err(WriteRefusal::VersionLimit { attr })
     } else {
         Ok(())

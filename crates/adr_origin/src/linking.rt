@@ -1,12 +1,13 @@
 //! Making and removing links.
 
-ghost use Rattle.std.specs.Prelude.{◌≡◌, ◌≢◌, ◌+◌, ◌<◌, ◌≤◌, Ok, Err, IfOk, IsErrOf, OnOk, is_some, if◌then◌else◌};
+ghost use Rattle.std.specs.Prelude.{false, ◌≡◌, ◌≢◌, ◌+◌, ◌<◌, ◌≤◌, Ok, Err, IfOk, IsErrOf, OnOk, is_some, if◌then◌else◌};
+ghost use Rattle.std.specs.Option.{option_copied, option_map_or};
 ghost use Rattle.std.specs.Result.{result_err};
 ghost use Rattle.adr_call.specs.declared.refusal.Table.TheVariants.{Links as links};
 ghost use Rattle.adr_call.specs.declared.refusal.WriteRefusal.{WriteRefusal};
 ghost use Rattle.adr_model.specs.Store.{row_held, updates_of};
 ghost use Rattle.adr_model.specs.Update.{LinkOf};
-ghost use Rattle.adr_model.specs.Write.{AddLink, RemoveLink, any_link_refusal, full_refusal, is_linked, link_limit, link_of, link_refusal, links_in, nodes_held, of_link, says_present, usn_limit, version_limit, version_of, write};
+ghost use Rattle.adr_model.specs.Write.{AddLink, RemoveLink, any_link_refusal, full_refusal, link_limit, link_of, link_refusal, links_in, nodes_held, of_link, says_present, usn_limit, version_limit, version_of, write};
 ghost use Rattle.adr_change.specs.Mode.{mode_of};
 ghost use Rattle.adr_update.specs.Said.{said_of};
 ghost use Rattle.adr_origin.specs.LinkParts.{already_refusal, ends_refusal, start_refusal, write_refusal};
@@ -15,9 +16,9 @@ use crate::NoMemory;
 use crate::checks::{
     check_mode, check_not_fixed, check_object, check_schema, check_usn, check_version,
 };
-use crate::stamps::{class_of, next_stamp, object_of, own_change};
+use crate::stamps::{class_of, object_of, own_change, stamp_after};
 use adr_call::{Failure, Table, WriteRefusal};
-use adr_state::{Change, Item, Key, LINK_LIMIT, Mode, Rows, Said, State, Update};
+use adr_state::{Change, Held, Item, Key, LINK_LIMIT, Mode, Rows, Said, State, Update};
 use adr_values::{Guid, LinkKey, Unit};
 use std::alloc::Global;
 
@@ -44,8 +45,10 @@ pub fn link(
     ensures refused { (refusal : WriteRefusal) → IsErrOf result (Failure.Refused refusal)
         → write state.now (AddLink ends.now.from ends.now.attr ends.now.to) now ≡ Err refusal }
 {
-    let link = check_link(state, ends)?;
-    let item = link_item(alloc, state, &link, now, true)?;
+    let link = link_of(state, ends);
+    let held = state.rows().row(Key::Link(link));
+    check_link(state, ends, &link, held)?;
+    let item = link_item(alloc, state, &link, held, now, true)?;
     Ok(own_change(alloc, state, item)?)
 }
 
@@ -64,40 +67,50 @@ pub fn unlink(
     ensures refused { (refusal : WriteRefusal) → IsErrOf result (Failure.Refused refusal)
         → write state.now (RemoveLink ends.now.from ends.now.attr ends.now.to) now ≡ Err refusal }
 {
-    let link = check_any_link(state, ends, false)?;
-    let item = link_item(alloc, state, &link, now, false)?;
+    let link = link_of(state, ends);
+    let held = state.rows().row(Key::Link(link));
+    check_any_link(state, ends, &link, held, false)?;
+    let item = link_item(alloc, state, &link, held, now, false)?;
     Ok(own_change(alloc, state, item)?)
 }
 
-/// Tests that a link may be made, and names it.
-fn check_link(state: &State, ends: &LinkEnds) -> Result<LinkKey, WriteRefusal>
+/// Tests that a link may be made.
+fn check_link(
+    state: &State,
+    ends: &LinkEnds,
+    link: &LinkKey,
+    held: Option<&Held>,
+) -> Result<(), WriteRefusal>
+    requires named { link.now
+        ≡ link_of (nodes_held (updates_of state.now.store.rows)) ends.now.from ends.now.attr ends.now.to }
+    requires held { option_copied held ≡ row_held state.now.store.rows (LinkOf link.now) }
     ensures told { result_err result ≡ link_refusal state.now ends.now.from ends.now.attr ends.now.to }
-    ensures named { IfOk result (λ link.
-        link ≡ link_of (nodes_held (updates_of state.now.store.rows)) ends.now.from ends.now.attr ends.now.to) }
-    ensures version { IfOk result (λ link.
-        version_of (row_held state.now.store.rows (LinkOf link)) ≢ version_limit) }
+    ensures version { OnOk result (version_of (option_copied held.entry) ≢ version_limit) }
     ensures usn { OnOk result (state.now.store.usn < usn_limit) }
 {
-    let link = check_any_link(state, ends, true)?;
-    check_links(state.rows(), &link)?;
-    Ok(link)
+    check_any_link(state, ends, link, held, true)?;
+    check_links(state.rows(), held)
 }
 
-/// Tests that a link may be made or removed, apart from how many there are, and names it.
-fn check_any_link(state: &State, ends: &LinkEnds, present: bool) -> Result<LinkKey, WriteRefusal>
+/// Tests that a link may be made or removed, apart from how many there are.
+fn check_any_link(
+    state: &State,
+    ends: &LinkEnds,
+    link: &LinkKey,
+    held: Option<&Held>,
+    present: bool,
+) -> Result<(), WriteRefusal>
+    requires named { link.now
+        ≡ link_of (nodes_held (updates_of state.now.store.rows)) ends.now.from ends.now.attr ends.now.to }
+    requires held { option_copied held ≡ row_held state.now.store.rows (LinkOf link.now) }
     ensures told { result_err result
         ≡ any_link_refusal state.now ends.now.from ends.now.attr ends.now.to (already_refusal present) }
-    ensures named { IfOk result (λ link.
-        link ≡ link_of (nodes_held (updates_of state.now.store.rows)) ends.now.from ends.now.attr ends.now.to) }
-    ensures version { IfOk result (λ link.
-        version_of (row_held state.now.store.rows (LinkOf link)) ≢ version_limit) }
+    ensures version { OnOk result (version_of (option_copied held.entry) ≢ version_limit) }
     ensures usn { OnOk result (state.now.store.usn < usn_limit) }
 {
     check_start(state.mode(), ends.from, ends.to)?;
     check_ends(state, ends)?;
-    let link = link_of(state, ends);
-    check_write(state, &link, present)?;
-    Ok(link)
+    check_write(state, link, held, present)
 }
 
 /// Tests that a controller takes writes, and that neither end is always there.
@@ -120,7 +133,7 @@ fn check_ends(state: &State, ends: &LinkEnds) -> Result<(), WriteRefusal>
     check_object(state, ends.to)
 }
 
-/// The name of a link between live objects.
+/// The name of a link between live objects. Where an end isn't live, the link is refused.
 fn link_of(state: &State, ends: &LinkEnds) -> LinkKey
     ensures { result
         ≡ link_of (nodes_held (updates_of state.now.store.rows)) ends.now.from ends.now.attr ends.now.to }
@@ -133,13 +146,19 @@ fn link_of(state: &State, ends: &LinkEnds) -> LinkKey
 }
 
 /// Tests that a link is not yet as it is to be, and that its row can be written.
-fn check_write(state: &State, link: &LinkKey, present: bool) -> Result<(), WriteRefusal>
+fn check_write(
+    state: &State,
+    link: &LinkKey,
+    held: Option<&Held>,
+    present: bool,
+) -> Result<(), WriteRefusal>
+    requires { option_copied held ≡ row_held state.now.store.rows (LinkOf link.now) }
     ensures told { result_err result ≡ write_refusal state.now link.now present }
-    ensures version { OnOk result (version_of (row_held state.now.store.rows (LinkOf link.now)) ≢ version_limit) }
+    ensures version { OnOk result (version_of (option_copied held.entry) ≢ version_limit) }
     ensures usn { OnOk result (state.now.store.usn < usn_limit) }
 {
-    check_change(is_linked(state.rows(), link), present)?;
-    check_version(state.rows(), Key::Link(*link), link.attr)?;
+    check_change(is_linked(held), present)?;
+    check_version(held, link.attr)?;
     check_usn(state.usn())
 }
 
@@ -163,23 +182,22 @@ fn says_present(said: &Said) -> bool
     }
 }
 
-/// Whether a link is there.
-fn is_linked(rows: &Rows, link: &LinkKey) -> bool
-    ensures { result ≡ is_linked rows.now link.now }
+/// Whether a link of this row is there.
+fn is_linked(held: Option<&Held>) -> bool
+    ensures { result ≡ option_map_or (λ h. says_present h.update.said) (option_copied held.entry) false }
 {
-    match rows.row(Key::Link(*link)) {
+    match held {
         Some(held) => says_present(held.update().said()),
         None => false,
     }
 }
 
 /// Tests that there is room for the row of a link, which may be held already.
-fn check_links(rows: &Rows, link: &LinkKey) -> Result<(), WriteRefusal>
+fn check_links(rows: &Rows, held: Option<&Held>) -> Result<(), WriteRefusal>
     ensures { result_err result
-        ≡ full_refusal links link_limit (links_in rows.now + (if is_some (row_held rows.now (LinkOf link.now))
-        then 0 else 1)) }
+        ≡ full_refusal links link_limit (links_in rows.now + (if is_some (option_copied held.entry) then 0 else 1)) }
 {
-    let is_held = rows.row(Key::Link(*link)).is_some();
+    let is_held = held.is_some();
     let most = if is_held { LINK_LIMIT } else { LINK_LIMIT - 1 };
     if rows.links() as u64 <= most {
         Ok(())
@@ -196,15 +214,18 @@ fn link_item(
     alloc: Global,
     state: &State,
     link: &LinkKey,
+    held: Option<&Held>,
     now: u64,
     present: bool,
 ) -> Result<Item, NoMemory>
     requires usn { state.now.store.usn < usn_limit }
-    requires version { version_of (row_held state.now.store.rows (LinkOf link.now)) ≢ version_limit }
+    requires held { option_copied held ≡ row_held state.now.store.rows (LinkOf link.now) }
+    requires version { version_of (option_copied held) ≢ version_limit }
     ensures { IfOk result (λ item. item ≡ of_link state.now now link.now present) }
 {
-    let stamp = next_stamp(state, Key::Link(*link), now);
+    let key = Key::Link(*link);
+    let stamp = stamp_after(state, &key, held, now);
     let mut rows = Vec::new(alloc);
-    rows.push(Update::new(Key::Link(*link), stamp, Said::IsPresent(present)))?;
+    rows.push(Update::new(key, stamp, Said::IsPresent(present)))?;
     Ok(Item::new(Unit::Link(*link), rows))
 }

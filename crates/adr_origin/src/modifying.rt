@@ -76,7 +76,7 @@ fn check_versions(rows: &Rows, object: &Oid, values: &Assignments) -> Result<(),
             object: *object,
             attr: *attr,
         };
-        check_version(rows, key, *attr)?;
+        check_version(rows.row(key), *attr)?;
     }
     Ok(())
 }

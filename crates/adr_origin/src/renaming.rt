@@ -94,6 +94,6 @@ fn check_row(state: &State, object: &Oid, attr: u16) -> Result<(), WriteRefusal>
         object: *object,
         attr,
     };
-    check_version(state.rows(), key, attr)?;
+    check_version(state.rows().row(key), attr)?;
     check_usn(state.usn())
 }

@@ -95,14 +95,14 @@ fn created(held: Option<&Held>, key: &Key, now: u64) -> u64
 }
 
 /// The stamp of the next write of a row: one version more than that of the held one.
-pub fn next_stamp(state: &State, key: Key, now: u64) -> LinkStamp
+pub fn stamp_after(state: &State, key: &Key, held: Option<&Held>, now: u64) -> LinkStamp
     requires usn { state.now.store.usn < usn_limit }
-    requires version { version_of (row_held state.now.store.rows (key_of key)) ≢ version_limit }
-    ensures { result ≡ next_stamp state.now (key_of key) now }
+    requires held { option_copied held ≡ row_held state.now.store.rows (key_of key.now) }
+    requires version { version_of (option_copied held) ≢ version_limit }
+    ensures { result ≡ next_stamp state.now (key_of key.now) now }
 {
-    let held = state.rows().row(key);
     LinkStamp {
-        created: created(held, &key, now),
+        created: created(held, key, now),
         stamp: Stamp {
             version: version_of(held) + 1,
             time: now,
@@ -122,7 +122,9 @@ pub fn next_row(state: &State, object: &Oid, attr: u16, content: Content, now: u
         object: *object,
         attr,
     };
-    row(object, &next_stamp(state, key, now), attr, content)
+    let held = state.rows().row(key);
+    let stamp = stamp_after(state, &key, held, now);
+    row(object, &stamp, attr, content)
 }
 
 /// An object with one row, one version on, under the next update sequence number.

@@ -1,14 +1,13 @@
 -- How many cursors a vector has after it was raised.
-use Rattle.std.proofs.Common.{◌≡◌, ℕ, ◌+◌, ◌≤◌, ◌<◌, max, Bool, true, false, cond, List, [], ◌∷◌, refl, sym, ap, ◌∙◌, filter, length, Some, is_some, arith, leb-true, leb-false}
-use Rattle.std.specs.Prelude.{◌==◌, if◌then◌else◌}
+use Rattle.std.proofs.Common.{◌≡◌, ℕ, ◌+◌, ◌≤◌, ◌<◌, Bool, true, false, cond, List, [], ◌∷◌, refl, length, Some, is_some, arith, leb-true, leb-false}
 use Rattle.std.specs.Map.{lookup}
 use Rattle.std.specs.BTreeMap.{insert_entry, is_at}
 use Rattle.std.specs.Ordering.{is_eq}
 use Rattle.std.proofs.lemmas.Bool.Decides.{nat_tests}
-use Rattle.std.proofs.lemmas.Cmp.{nat_list_cmp_total, tied_itself}
+use Rattle.std.proofs.lemmas.Cmp.{nat_list_cmp_total}
 use Rattle.adr_values.specs.Order.{identifier_order}
-use Rattle.adr_values.specs.Vector.{Cursors, at, covers, raised, joined}
-use Rattle.adr_values.proofs.Cursors.{IsRising, FromOne, IsBelow, head_below, tail_rising}
+use Rattle.adr_values.specs.Vector.{Cursors, at, covers, raised}
+use Rattle.adr_values.proofs.Cursors.{IsRising, FromOne}
 use Rattle.adr_change.proofs.Entered.{entered, lacking}
 use Rattle.adr_overlay.specs.Cursors.{at_zero, new_at}
 

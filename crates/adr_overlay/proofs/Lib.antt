@@ -1,10 +1,11 @@
-mod Rising
-mod Objects
-mod Looked
-mod Holding
-mod Tally
-mod Births
-mod Telling
 mod All
+mod Births
+mod Counted
+mod Holding
 mod Lengths
+mod Looked
+mod Objects
+mod Rising
+mod Tally
+mod Telling
 pub mod Standings

@@ -1,6 +1,8 @@
 -- What rows of an object of which nothing is held make of what is told and of the counts, where they are put at once.
-use Rattle.std.proofs.Common.{◌≡◌, ℕ, ◌+◌, List, [], ◌∷◌, Bool, true, false, cond, ◌&&◌, ◌||◌, refl, sym, ap, ◌∙◌, subst, fold, map, length, Option, Some, None, is_none, is_some, arith, eqb, eqb-true}
+use Rattle.std.proofs.Common.{◌≡◌, ℕ, ◌+◌, List, [], ◌∷◌, Bool, true, false, cond, ◌&&◌, ◌||◌, refl, sym, ap, ◌∙◌, subst, fold, map, take, drop, length, Option, Some, None, is_none, is_some, arith, eqb, eqb-true}
 use Rattle.std.specs.List.{list_all}
+use Rattle.std.proofs.lemmas.List.{map-append, take-append-drop}
+use Rattle.std.proofs.lemmas.List.Sums.{fold-append}
 use Rattle.adr_values.specs.declared.stamp.Oid.{Oid}
 use Rattle.adr_model.specs.Change.{killed_by, put}
 use Rattle.adr_model.specs.Formed.{AreRising}
@@ -26,6 +28,16 @@ all_rise (h ∷ hs) rows r = all_rise hs (put rows h) (put_rises rows h r)
 pub told_all : (hs over base : List Held) → AreRising over → AreRising base → told (fold put over hs) base ≡ fold put (told over base) hs
 told_all [] over base s r = refl
 told_all (h ∷ hs) over base s r = told_all hs (put over h) base (put_rises over h s) r ∙ ap (λ rows. fold put rows hs) (told_after over base h s r)
+
+-- where the first ones are put, and then the others
+pub put_in_turn : (local n : ℕ) (us rest : List Update) (rows mid new : List Held) → mid ≡ fold put rows (map (held_at local) (take n us)) → rest ≡ drop n us → new ≡ fold put mid (map (held_at local) rest)
+    → new ≡ fold put rows (map (held_at local) us)
+put_in_turn local n us rest rows mid new first is then =
+    then
+    ∙ ap (λ us'. fold put mid (map (held_at local) us')) is
+    ∙ ap (λ hs. fold put hs (map (held_at local) (drop n us))) first
+    ∙ sym (fold-append put rows (map (held_at local) (take n us)) (map (held_at local) (drop n us)))
+    ∙ ap (fold put rows) (sym (map-append (held_at local) (take n us) (drop n us)) ∙ ap (map (held_at local)) (take-append-drop n us))
 
 -- ---- one row
 

@@ -56,6 +56,20 @@ held_over over base k h e = held_told over base k ∙ ap (λ o. option_or o (con
 pub held_below : (over base : List Held) (k : Key) → row_held over k ≡ None → row_held (told over base) k ≡ cond (is_stripped over k) None (row_held base k)
 held_below over base k e = held_told over base k ∙ ap (λ o. option_or o (cond (is_stripped over k) None (row_held base k))) e
 
+-- the deaths that are told are those over the base and those of the base
+dead_told : (over base : List Held) (o : Oid) → holds_dead (told over base) o ≡ holds_dead over o || holds_dead base o
+dead_told over base o = ap is_some (held_told over base (RowOf o deleted_attr)) ∙ by (row_held over (RowOf o deleted_attr))
+  where
+    by : (r : Option Held) → is_some (option_or r (cond (is_some r && nat_lt deleted_attr deleted_attr) None (row_held base (RowOf o deleted_attr)))) ≡ is_some r || holds_dead base o
+    by None = refl
+    by (Some h) = refl
+
+pub dead_over : (over base rows : List Held) → told over base ≡ rows → (o : Oid) → holds_dead over o ≡ true → holds_dead rows o ≡ true
+dead_over over base rows is o dead = ap (λ hs. holds_dead hs o) (sym is) ∙ dead_told over base o ∙ ap (λ b. b || holds_dead base o) dead
+
+pub dead_below : (over base rows : List Held) → told over base ≡ rows → (o : Oid) → holds_dead over o ≡ false → holds_dead rows o ≡ holds_dead base o
+dead_below over base rows is o not_dead = ap (λ hs. holds_dead hs o) (sym is) ∙ dead_told over base o ∙ ap (λ b. b || holds_dead base o) not_dead
+
 pub none_below_stripped : (b : Bool) (base : List Held) (k : Key) → row_held base k ≡ None → None ≡ cond b None (row_held base k)
 none_below_stripped true base k e = refl
 none_below_stripped false base k e = sym e

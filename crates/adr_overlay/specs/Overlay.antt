@@ -50,6 +50,14 @@ one b = if b then 1 else 0
 abbrev pub is_birth_row : Key → Bool
 is_birth_row k = is_some (born k)
 
+-- whether a row of the key counts, as an object or as a link
+abbrev pub is_counted : Key → Bool
+is_counted k = is_birth_row k || is_link_row k
+
+-- the row of a key in the base, if it still counts where none is over it
+abbrev pub left_below : List Held → List Held → Key → Option Held
+left_below over base k = if is_stripped over k then None else row_held base k
+
 -- how many links a death takes
 abbrev pub links_lost : Option Oid → List Held → ℕ
 links_lost None rows = 0

@@ -1,6 +1,6 @@
 //! The rows of a controller with others over them, none of which is copied.
 
-ghost use Rattle.std.specs.Prelude.{◌≡◌, ◌+◌, ◌++◌, ◌&&◌, ◌||◌, Bool, IfOk, IfSome, OnErr, OnOk, None, Some, false, filter, fold, true, is_none, length, map, not, if◌then◌else◌};
+ghost use Rattle.std.specs.Prelude.{◌≡◌, ◌≤◌, ◌+◌, ◌++◌, ◌&&◌, ◌||◌, Bool, IfOk, IfSome, OnErr, OnOk, None, Some, false, filter, fold, true, is_none, is_some, length, map, not, take, if◌then◌else◌};
 ghost use Rattle.std.specs.List.{list_all};
 ghost use Rattle.std.specs.Option.{option_copied};
 ghost use Rattle.adr_model.specs.Live.{objects_of};
@@ -14,7 +14,7 @@ ghost use Rattle.adr_update.specs.Referents.{referents};
 ghost use Rattle.adr_update.specs.Sought.{is_link_from};
 ghost use Rattle.adr_shelves.specs.Shelves.{held_at, is_life_of};
 ghost use Rattle.adr_table.specs.Table.{IsKept, rows_in};
-ghost use Rattle.adr_overlay.specs.Overlay.{is_birth_row, is_left, is_stripped, links_found, links_lost, one};
+ghost use Rattle.adr_overlay.specs.Overlay.{is_birth_row, is_counted, is_left, is_stripped, left_below, links_found, links_lost, one};
 
 use crate::NoMemory;
 use crate::keys::has_row;
@@ -94,7 +94,7 @@ impl<'a> Overlay<'a> {
     pub fn is_dead(&self, object: &Oid) -> bool
         ensures { result ≡ holds_dead self.now object.now }
     {
-        self.row(Key::deleted(object)).is_some()
+        self.over.is_dead(object) || self.base.is_dead(object)
     }
 
     /// The rows of an object, in some order.
@@ -138,8 +138,12 @@ impl<'a> Overlay<'a> {
         ensures { OnOk result (self.new ≡ fold put self.old (map (held_at local) rows.now)) }
     {
         match unheld {
-            Some(object) if are_life_of(rows, &object) => self.put_object(&object, local, rows),
-            _ => self.put_each(alloc, local, rows),
+            Some(object) => {
+                let lives = lives_of(rows, &object);
+                self.put_object(&object, local, &rows[..lives])?;
+                self.put_each(alloc, local, &rows[lives..])
+            }
+            None => self.put_each(alloc, local, rows),
         }
     }
 
@@ -171,31 +175,13 @@ impl<'a> Overlay<'a> {
     {
         let key = row.key();
         let lost = self.lost_by(alloc, &key)?;
-        let objects = self.objects_with(&key)?;
-        let links = self.links_with(&key)?;
-        put_over(alloc, &mut self.over, local, row)?;
-        self.objects = objects;
-        self.links = links - lost;
+        let is_new = is_new_below(&self.over, self.base, &key);
+        let objects = objects_with(self.objects, &key, is_new)?;
+        let links = links_with(self.links, &key, is_new)?;
+        let was = put_over(alloc, &mut self.over, local, row)?;
+        self.objects = count_after(was, self.objects, objects);
+        self.links = count_after(was, self.links, links) - lost;
         Ok(())
-    }
-
-    /// Whether there is no row of a key.
-    fn lacks(&self, key: &Key) -> bool
-        ensures { result ≡ is_none (row_held self.now (key_of key.now)) }
-    {
-        self.row(*key).is_none()
-    }
-
-    /// How many objects there are with a row of this key.
-    fn objects_with(&self, key: &Key) -> Result<usize, NoMemory>
-        ensures { IfOk result (λ count. count ≡ length (objects_of (updates_of self.now))
-            + one (is_birth_row (key_of key.now) && is_none (row_held self.now (key_of key.now)))) }
-    {
-        if key.born().is_some() && self.lacks(key) {
-            sum(self.objects, 1)
-        } else {
-            Ok(self.objects)
-        }
     }
 
     /// How many objects there are with rows of one of which nothing is held.
@@ -207,18 +193,6 @@ impl<'a> Overlay<'a> {
             sum(self.objects, 1)
         } else {
             Ok(self.objects)
-        }
-    }
-
-    /// How many link rows there are with a row of this key.
-    fn links_with(&self, key: &Key) -> Result<usize, NoMemory>
-        ensures { IfOk result (λ count. count
-            ≡ links_in self.now + one (is_link_row (key_of key.now) && is_none (row_held self.now (key_of key.now)))) }
-    {
-        if key.is_link() && self.lacks(key) {
-            sum(self.links, 1)
-        } else {
-            Ok(self.links)
         }
     }
 
@@ -240,9 +214,48 @@ fn sum(one: usize, other: usize) -> Result<usize, NoMemory>
     one.checked_add(other).ok_or(AllocError)
 }
 
-/// Puts a row over the others, under an update sequence number.
-fn put_over(alloc: Global, over: &mut Table, local: u64, row: &Update) -> Result<(), NoMemory>
+/// Whether a row of this key counts as an object or as a link, and there is none below the others.
+fn is_new_below(over: &Table, base: &Table, key: &Key) -> bool
+    requires over { IsKept over.now }
+    requires base { IsKept base.now }
+    ensures { result ≡ (is_counted (key_of key.now) && is_none (left_below (rows_in over.now) (rows_in base.now) (key_of key.now))) }
+{
+    (key.born().is_some() || key.is_link()) && row_below(over, base, key).is_none()
+}
+
+/// How many objects there are with a row of this key, which may be new.
+fn objects_with(objects: usize, key: &Key, is_new: bool) -> Result<usize, NoMemory>
+    ensures { IfOk result (λ count. count ≡ objects + one (is_birth_row (key_of key.now) && is_new)) }
+{
+    if key.born().is_some() && is_new {
+        sum(objects, 1)
+    } else {
+        Ok(objects)
+    }
+}
+
+/// How many link rows there are with a row of this key, which may be new.
+fn links_with(links: usize, key: &Key, is_new: bool) -> Result<usize, NoMemory>
+    ensures { IfOk result (λ count. count ≡ links + one (is_link_row (key_of key.now) && is_new)) }
+{
+    if key.is_link() && is_new {
+        sum(links, 1)
+    } else {
+        Ok(links)
+    }
+}
+
+/// A count once a row is put: a row that was over the others before counts already.
+fn count_after(was: bool, count: usize, with_new: usize) -> usize
+    ensures { result ≡ (if was then count else with_new) }
+{
+    if was { count } else { with_new }
+}
+
+/// Puts a row over the others, under an update sequence number, and tells whether one of its key was among them.
+fn put_over(alloc: Global, over: &mut Table, local: u64, row: &Update) -> Result<bool, NoMemory>
     requires { IsKept over.old }
+    ensures was { IfOk result (λ was. was ≡ is_some (row_held (rows_in over.old) row.now.key)) }
     ensures kept { IsKept over.new }
     ensures ok { OnOk result (rows_in over.new ≡ put (rows_in over.old) (held_at local row.now)) }
     ensures err { OnErr result (rows_in over.new ≡ rows_in over.old) }
@@ -250,16 +263,17 @@ fn put_over(alloc: Global, over: &mut Table, local: u64, row: &Update) -> Result
     over.put_now(Held::new(row.copy(alloc)?, local))
 }
 
-/// Whether all rows are of an object, and none is a death.
-fn are_life_of(rows: &[Update], object: &Oid) -> bool
-    ensures { result ≡ list_all (is_life_of object.now) rows.now }
+/// How many rows at the front are of an object and no deaths.
+fn lives_of(rows: &[Update], object: &Oid) -> usize
+    ensures within { result ≤ length rows.now }
+    ensures own { list_all (is_life_of object.now) (take result rows.now) ≡ true }
 {
-    for row in rows {
+    for (place, row) in rows.iter().enumerate() {
         if !row.key().is_life_of(object) {
-            return false;
+            return place;
         }
     }
-    true
+    rows.len()
 }
 
 /// How many links there are at an object: those over the others, and of those below them what still counts.
@@ -306,7 +320,7 @@ fn row_below<'r>(over: &Table, base: &'r Table, key: &Key) -> Option<&'r Held>
     requires over { IsKept over.now }
     requires base { IsKept base.now }
     ensures { option_copied result
-        ≡ (if is_stripped (rows_in over.now) (key_of key.now) then None else row_held (rows_in base.now) (key_of key.now)) }
+        ≡ left_below (rows_in over.now) (rows_in base.now) (key_of key.now) }
 {
     match base.row(*key) {
         Some(row) => {

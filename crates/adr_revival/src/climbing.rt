@@ -1,6 +1,6 @@
 //! Whether a place stands under an object that is not there.
 
-ghost use Rattle.std.specs.Prelude.{◌≡◌, IfOk, length};
+ghost use Rattle.std.specs.Prelude.{◌≡◌, length};
 ghost use Rattle.std.specs.List.{list_any};
 ghost use Rattle.std.specs.Option.{option_copied};
 ghost use Rattle.adr_model.specs.Place.{upward};
@@ -9,11 +9,9 @@ ghost use Rattle.adr_model.specs.Update.{same_identifier};
 ghost use Rattle.adr_model.specs.Write.{nodes_held};
 ghost use Rattle.adr_law_tree.specs.Walk.{climb, free};
 
-use crate::NoMemory;
 use adr_state::{Node, Rows, is_same};
 use adr_update::is_fixed;
 use adr_values::Guid;
-use std::alloc::Global;
 
 /// The live object of a GUID that isn't fixed.
 fn free(rows: &Rows, guid: Guid) -> Option<&Node>
@@ -47,12 +45,12 @@ fn climbs_to(rows: &Rows, from: Guid, target: Guid, steps: usize) -> bool
 }
 
 /// Whether an object that is met going up from a place, which it may be itself, has a GUID as its parent, as that was
-/// written. No object of that GUID needs to be live. It takes memory by the live objects.
-pub fn is_named_above(alloc: Global, rows: &Rows, place: Guid, guid: Guid) -> Result<bool, NoMemory>
+/// written. No object of that GUID needs to be live. As a loop of parents has no end, the walk goes up by no more steps than
+/// there are objects.
+pub fn is_named_above(rows: &Rows, place: Guid, guid: Guid) -> bool
     ensures { let nodes = nodes_held (updates_of rows.now) in
-        IfOk result (λ named. named ≡ list_any (λ n. same_identifier n.parent guid) (upward nodes (length nodes) place)) }
+        result ≡ list_any (λ n. same_identifier n.parent guid) (upward nodes (length nodes) place) }
 {
-    let nodes = rows.nodes(alloc)?;
-    let steps = nodes.as_slice().len();
-    Ok(climbs_to(rows, place, guid, steps))
+    rows.are_rising();
+    climbs_to(rows, place, guid, rows.objects())
 }

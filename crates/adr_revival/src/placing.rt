@@ -1,6 +1,7 @@
 //! Where the object may come to stand.
 
 ghost use Rattle.std.specs.Prelude.{◌≡◌};
+ghost use Rattle.std.specs.Result.{result_err};
 ghost use Rattle.adr_model.specs.Store.{updates_of};
 ghost use Rattle.adr_model.specs.Write.{nodes_held};
 ghost use Rattle.adr_origin.specs.Telling.{Tells};
@@ -16,16 +17,11 @@ use std::alloc::Global;
 
 /// Tests that the object would not come to stand under itself: no object on the way up from the parent names it as its own
 /// parent. As it isn't live, it isn't met there.
-fn check_no_loop(
-    alloc: Global,
-    state: &State,
-    guid: Guid,
-    parent: Guid,
-) -> Result<(), Failure<WriteRefusal>>
-    ensures { Tells result (loop_refusal (nodes_held (updates_of state.now.store.rows)) guid parent) }
+fn check_no_loop(state: &State, guid: Guid, parent: Guid) -> Result<(), WriteRefusal>
+    ensures { result_err result ≡ loop_refusal (nodes_held (updates_of state.now.store.rows)) guid parent }
 {
-    if is_named_above(alloc, state.rows(), parent, guid)? {
-        Err(Failure::Refused(WriteRefusal::WouldLoop))
+    if is_named_above(state.rows(), parent, guid) {
+        Err(WriteRefusal::WouldLoop)
     } else {
         Ok(())
     }
@@ -42,7 +38,7 @@ pub fn check_place(
 {
     check_schema(check_name(revival.text.as_str()))?;
     check_parent(state, revival.parent)?;
-    check_no_loop(alloc, state, revival.guid, revival.parent)?;
+    check_no_loop(state, revival.guid, revival.parent)?;
     check_superior(state, class, revival.parent)?;
     check_name_free(alloc, state, revival.parent, revival.text)
 }

@@ -2,6 +2,7 @@ pub mod Entries
 pub mod Places
 pub mod ShelfPlaces
 pub mod Shelved
+pub mod ShelvedBuried
 pub mod ShelvedEmptied
 pub mod ShelvedFilled
 pub mod ShelvedFrees
@@ -9,5 +10,6 @@ pub mod ShelvedMade
 pub mod ShelvedObjects
 pub mod ShelvedParts
 pub mod ShelvedRuns
+pub mod ShelvedTrees
 pub mod ShelvedUnits
 pub mod ShelvedWrites

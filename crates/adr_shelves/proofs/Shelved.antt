@@ -287,7 +287,7 @@ uncounted test s (e ∷ slots) es fail =
     ∙ uncounted test s slots es fail.1
 
 -- at most one attribute of a seat's passes
-abbrev PassesOnce : (Place → Bool) → Place → Type 0
+abbrev pub PassesOnce : (Place → Bool) → Place → Type 0
 PassesOnce test s = (a b : ℕ) → IsOwn s a → IsOwn s b → test (place_in s a) ≡ true → test (place_in s b) ≡ true → a ≡ b
 
 not_again : (test : Place → Bool) (s : Place) → PassesOnce test s → (a : ℕ) → IsOwn s a → test (place_in s a) ≡ true → (slots : Kept) → IsShelf s slots
@@ -319,22 +319,25 @@ counted_once test s once (e ∷ slots) shelf es = by (test (place_in s e.0)) ref
     by false is true few = few
     by false is false few = few
 
-one_each : (test : Place → Bool) → ((s : Place) → PassesOnce test s) → (us : Shelved) → AreAllShelves us → tally test (entries_of us) ≤ length us
+pub one_each : (test : Place → Bool) → ((s : Place) → PassesOnce test s) → (us : Shelved) → AreAllShelves us → tally test (entries_of us) ≤ length us
 one_each test once [] each = omega arith
 one_each test once (u ∷ us) each = omega (arith, counted_once test u.0 (once u.0) u.1 each.0 (entries_of us), one_each test once us each.1)
 
-class_once : (s : Place) → PassesOnce is_of_class s
+-- shelves of which no place passes
+pub none_counted : (test : Place → Bool) (us vs : Shelved) → AllByRecursion (λ s. (a : ℕ) → test (place_in s a) ≡ false) (keys_of us) → tally test (entries_of (us ++ vs)) ≡ tally test (entries_of vs)
+none_counted test [] vs fail = refl
+none_counted test (u ∷ us) vs fail = uncounted test u.0 u.1 (entries_of (us ++ vs)) (all_fail u.1) ∙ none_counted test us vs fail.1
+  where
+    all_fail : (slots : Kept) → AllByRecursion (λ a. test (place_in u.0 a) ≡ false) (keys_of slots)
+    all_fail [] = tt
+    all_fail (e ∷ slots) = (fail.0 e.0, all_fail slots)
+
+pub class_once : (s : Place) → PassesOnce is_of_class s
 class_once s a b own_a own_b is_a is_b = told (not s.is_link) is_a ∙ sym (told (not s.is_link) is_b)
   where
     told : {n : ℕ} (x : Bool) → (x && (n == class_attr)) ≡ true → n ≡ class_attr
     told true is = grind (arith, nat_tests)
     told false is = cc
 
-link_once : (s : Place) → PassesOnce is_of_link s
+pub link_once : (s : Place) → PassesOnce is_of_link s
 link_once s a b own_a own_b is_a is_b = own_a is_a ∙ sym (own_b is_b)
-
-pub classes_below : (us : Shelved) → AreShelves us → tally is_of_class (entries_of us) ≤ length us
-classes_below us are = one_each is_of_class class_once us are.each
-
-pub links_below : (us : Shelved) → AreShelves us → tally is_of_link (entries_of us) ≤ length us
-links_below us are = one_each is_of_link link_once us are.each

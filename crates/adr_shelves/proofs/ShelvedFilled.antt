@@ -38,7 +38,7 @@ use Rattle.adr_shelves.proofs.ShelvedWrites.{HaveNow, kept_as_is, kept_at, looku
 -- ---- what is written where it is found
 
 module _ {K X : Type 0} (order : K → K → Ordering) (total : IsTotalOrder order) (k : K) (v : X) where
-  set_put : (w : X) (es : List (K × X)) → IsStrictlySortedBy order (keys_of es) → lookup (is_at (order k)) es ≡ Some w → set_value (is_at (order k)) es v ≡ insert_entry order es k v
+  pub set_put : (w : X) (es : List (K × X)) → IsStrictlySortedBy order (keys_of es) → lookup (is_at (order k)) es ≡ Some w → set_value (is_at (order k)) es v ≡ insert_entry order es k v
   set_put w [] sorted there = cc
   set_put w (e ∷ es) sorted there = by (order k e.0) refl there (set_put w es (sorted_tail order e.0 (keys_of es) sorted))
     where

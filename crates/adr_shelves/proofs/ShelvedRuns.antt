@@ -1,6 +1,5 @@
 -- The slots of shelves from a place on.
 use Rattle.std.proofs.Common.{◌≡◌, refl, sym, ap, ◌∙◌, subst, arith, ◌&&◌, ◌||◌, ℕ, List, [], ◌∷◌, ◌++◌, Bool, true, false, Option, Some, None, filter, cond, nat_le, nat_lt, ◌+◌, ◌<◌, ◌==◌, length, drop, slice_index_or}
-use Rattle.std.specs.Prelude.{IfNone}
 use Rattle.std.specs.Option.{is_none, option_cmp}
 use Rattle.std.specs.Ordering.{bool_cmp, is_eq, is_le, is_lt, match_ordering, nat_cmp, ordering_then}
 use Rattle.std.specs.declared.cmp.Ordering.{Ordering}
@@ -304,6 +303,15 @@ module _ (us ws : Shelved) (are : AreShelves us) (p seat : Place) (seat_is : sea
   pub begun_none : (b : Bool) → ws ≡ [] → [] ≡ entries_between place_order (start_at b p) Unbounded (entries_of us)
   begun_none b is = sym (ranged b ∙ ap (begun b p) is)
 
+  -- without a shelf of the place's own unit
+  pub begun_behind : (b : Bool) → AllByRecursion (λ q. is_eq (place_order q seat) ≡ false) (keys_of ws) → entries_of ws ≡ entries_between place_order (start_at b p) Unbounded (entries_of us)
+  begun_behind b apart = sym (ranged b ∙ by ws apart)
+    where
+      by : (vs : Shelved) → AllByRecursion (λ q. is_eq (place_order q seat) ≡ false) (keys_of vs) → begun b p vs ≡ entries_of vs
+      by [] apart = refl
+      by (v ∷ vs) apart =
+          ap (λ c. shelf_entries v.0 (cond c (behind (b && is_proper p) p.attr v.1) v.1) ++ entries_of vs) (ap (λ s. is_eq (place_order v.0 s)) (sym seat_is) ∙ apart.0)
+
   module _ (first : Place) (shelf : Kept) (vs : Shelved) (is : ws ≡ (first, shelf) ∷ vs) where
     pub slots_rise : IsStrictlySortedBy nat_cmp (keys_of shelf)
     slots_rise =
@@ -329,11 +337,6 @@ module _ (us ws : Shelved) (are : AreShelves us) (p seat : Place) (seat_is : sea
         ap (λ xs. shelf_entries first xs ++ entries_of vs) (left_is ∙ ap (λ c. cond c (behind (b && is_proper p) p.attr shelf) shelf) test)
         ∙ sym (ranged b ∙ ap (begun b p) is)
 
-pub begun_all : (us ws vs : Shelved) (first : Place) (shelf left : Kept) → ws ≡ entries_between place_order Unbounded Unbounded us → ws ≡ (first, shelf) ∷ vs → left ≡ shelf
-    → shelf_entries first left ++ entries_of vs ≡ entries_of us
-begun_all us ws vs first shelf left ws_is is left_is =
-    ap (λ xs. shelf_entries first xs ++ entries_of vs) left_is ∙ ap entries_of (sym is ∙ ws_is ∙ every us)
-
 -- ---- a run goes on
 
 is_zero : (n : ℕ) (r : Bool) → r ≡ (n == 0) → r ≡ true → n ≡ 0
@@ -347,10 +350,6 @@ none_left ss r is t = nil_from_length ss (is_zero (length ss) r is t)
 
 pub some_left : (ss : Kept) (r : Bool) → r ≡ (length ss == 0) → r ≡ false → 0 < length ss
 some_left ss r is f = is_more (length ss) r is f
-
-pub if_none : {X : Type 0} (o : Option X) (P : Type 0) → P → IfNone o P
-if_none None P h = h
-if_none (Some x) P h = tt
 
 module _ (seat : Place) (slots : Kept) (shelves : Shelved) (all : Entries) (walk : shelf_entries seat slots ++ entries_of shelves ≡ all) where
   pub run_ended : slots ≡ [] → shelves ≡ [] → all ≡ []

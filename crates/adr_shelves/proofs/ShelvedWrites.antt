@@ -10,7 +10,7 @@ use Rattle.std.specs.Option.{option_and_then, unwrap_or}
 use Rattle.std.specs.Ordering.{is_eq, match_ordering, nat_cmp, ordering_reverse, ordering_then}
 use Rattle.std.specs.declared.cmp.Ordering.{Ordering}
 use Rattle.std.specs.declared.cmp.Ordering.TheVariants.{Less, Equal, Greater}
-use Rattle.std.specs.BTreeMap.{BTreeMap, insert_entry, is_at}
+use Rattle.std.specs.BTreeMap.{insert_entry, is_at}
 use Rattle.std.specs.Cmp.{IsTotalOrder}
 use Rattle.std.proofs.lemmas.Cmp.{nat_cmp_total, tied_itself}
 use Rattle.std.proofs.lemmas.Map.Keys.{sorted_head, sorted_tail}
@@ -292,16 +292,3 @@ module _ (us : Shelved) (are : AreShelves us) (now : Entries) (view : entries_of
 pub record HaveNow (vs : Shelved) (es : Entries) : Type 0 where
   pub are : AreShelves vs
   pub entries : entries_of vs ≡ es
-
--- the same of an equal map
-pub shelves_along : (m n : BTreeMap Place Kept) → n ≡ m → AreShelves m.entries → AreShelves n.entries
-shelves_along m n e are = subst (λ (k : BTreeMap Place Kept). AreShelves k.entries) (sym e) are
-
-pub view_along : (es : Entries) (m n : BTreeMap Place Kept) → n ≡ m → entries_of m.entries ≡ es → entries_of n.entries ≡ es
-view_along es m n e h = ap (λ (k : BTreeMap Place Kept). entries_of k.entries) e ∙ h
-
-pub entries_along : {T E : Type 0} (r : Result T E) (es : Entries) (m n : BTreeMap Place Kept) → n ≡ m → OnOk r (entries_of m.entries ≡ es) → OnOk r (entries_of n.entries ≡ es)
-entries_along r es m n e h = subst (λ (k : BTreeMap Place Kept). OnOk r (entries_of k.entries ≡ es)) (sym e) h
-
-pub same_along : {T E : Type 0} (r : Result T E) (es : Entries) (m n : BTreeMap Place Kept) → n ≡ m → OnErr r (entries_of m.entries ≡ es) → OnErr r (entries_of n.entries ≡ es)
-same_along r es m n e h = subst (λ (k : BTreeMap Place Kept). OnErr r (entries_of k.entries ≡ es)) (sym e) h

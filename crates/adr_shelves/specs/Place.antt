@@ -8,6 +8,8 @@ use Rattle.adr_values.specs.Order.{identifier_order, birth_order, object_order}
 use Rattle.adr_values.specs.declared.stamp.Oid.{Oid}
 use Rattle.adr_model.specs.Update.{Identifier, Key, RowOf, LinkOf, class_attr, same_identifier}
 use Rattle.adr_shelves.specs.declared.place.Place.{Place}
+use Rattle.adr_shelves.specs.declared.place.ObjectSeat.{ObjectSeat}
+use Rattle.adr_shelves.specs.declared.place.LinkSeat.{LinkSeat}
 
 abbrev pub place_of : Key → Place
 place_of (RowOf o a) = record { is_link = false; guid = o.guid; birth = Some o.birth; attr = a; other = None }
@@ -19,6 +21,15 @@ place_order p q =
     (ordering_then (identifier_order p.guid q.guid)
     (ordering_then (option_cmp birth_order p.birth q.birth)
     (ordering_then (nat_cmp p.attr q.attr) (option_cmp object_order p.other q.other))))
+
+abbrev pub object_seat_order : ObjectSeat → ObjectSeat → Ordering
+object_seat_order s t = ordering_then (identifier_order s.guid t.guid) (option_cmp birth_order s.birth t.birth)
+
+abbrev pub link_seat_order : LinkSeat → LinkSeat → Ordering
+link_seat_order s t =
+    ordering_then (identifier_order s.guid t.guid)
+    (ordering_then (option_cmp birth_order s.birth t.birth)
+    (ordering_then (nat_cmp s.attr t.attr) (option_cmp object_order s.other t.other)))
 
 -- whether the place is of the object of the first one, with its attribute or a greater one; a first one without a birth
 -- stands for all objects of its GUID
@@ -63,6 +74,24 @@ is_of_unit seat p = is_at (place_order seat) (seat_at p)
 -- the place of an attribute of the unit at a seat
 abbrev pub place_in : Place → ℕ → Place
 place_in seat attr = record seat { attr = attr }
+
+-- whether a unit stands at the place: an object stands at its attribute 0
+abbrev pub is_seat : Place → Bool
+is_seat p = p.is_link || ((p.attr == 0) && is_none p.other)
+
+-- the seat of the object whose row stands at a place, and the place of a seat
+abbrev pub object_seat : Place → ObjectSeat
+object_seat p = record { guid = p.guid; birth = p.birth }
+
+abbrev pub object_place : ObjectSeat → Place
+object_place s = record { is_link = false; guid = s.guid; birth = s.birth; attr = 0; other = None }
+
+-- the same of links
+abbrev pub link_seat : Place → LinkSeat
+link_seat p = record { guid = p.guid; birth = p.birth; attr = p.attr; other = p.other }
+
+abbrev pub link_place : LinkSeat → Place
+link_place s = record { is_link = true; guid = s.guid; birth = s.birth; attr = s.attr; other = s.other }
 
 -- whether a row may stand at the place: only a link's has another end
 abbrev pub is_proper : Place → Bool

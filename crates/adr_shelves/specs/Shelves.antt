@@ -13,7 +13,9 @@ use Rattle.adr_model.specs.Change.{killed_by}
 use Rattle.adr_model.specs.Store.{Held, is_row_of}
 use Rattle.adr_model.specs.Update.{Update}
 use Rattle.adr_shelves.specs.declared.place.Place.{Place}
-use Rattle.adr_shelves.specs.Place.{is_of_unit, place_in, place_of, place_order, seat_at}
+use Rattle.adr_shelves.specs.declared.place.ObjectSeat.{ObjectSeat}
+use Rattle.adr_shelves.specs.declared.place.LinkSeat.{LinkSeat}
+use Rattle.adr_shelves.specs.Place.{is_of_unit, link_place, object_place, place_in, place_of, place_order, seat_at}
 
 -- the slots of a shelf, each at its place
 abbrev pub shelf_entries : Place → List (ℕ × Option Held) → List (Place × Option Held)
@@ -24,6 +26,14 @@ shelf_entries seat (s ∷ ss) = (place_in seat s.0, s.1) ∷ shelf_entries seat 
 abbrev pub entries_of : List (Place × List (ℕ × Option Held)) → List (Place × Option Held)
 entries_of [] = []
 entries_of (u ∷ us) = shelf_entries u.0 u.1 ++ entries_of us
+
+-- shelves at the places of their seats
+abbrev pub placed : {S : Type 0} → (S → Place) → List (S × List (ℕ × Option Held)) → List (Place × List (ℕ × Option Held))
+placed place us = map (λ u. (place u.0, u.1)) us
+
+-- those of objects, and behind them those of links
+abbrev pub all_shelves : List (ObjectSeat × List (ℕ × Option Held)) → List (LinkSeat × List (ℕ × Option Held)) → List (Place × List (ℕ × Option Held))
+all_shelves objects links = placed object_place objects ++ placed link_place links
 
 -- a shelf stands at the seat of its unit, its slots rise, and that of a link has the link's attribute alone
 pub record IsShelf (seat : Place) (slots : List (ℕ × Option Held)) : Type 0 where

@@ -3,7 +3,7 @@
 ghost use Rattle.std.specs.Prelude.{◌≡◌};
 ghost use Rattle.adr_model.specs.Update.{LinkOf};
 ghost use Rattle.adr_update.specs.Key.{key_of};
-ghost use Rattle.adr_shelves.specs.Place.{IsStart, guid_start, is_in_run, is_of_class, is_proper, links_start, place_in, place_of, rows_start, seat_at};
+ghost use Rattle.adr_shelves.specs.Place.{IsStart, guid_start, is_in_run, is_of_class, is_proper, is_seat, link_place, link_seat, links_start, object_place, object_seat, place_in, place_of, rows_start, seat_at};
 
 use adr_update::{CLASS, Key};
 use adr_values::{Birth, Guid, LinkKey, Oid};
@@ -115,6 +115,13 @@ impl Place {
         self.is_link || self.other.is_none()
     }
 
+    /// Whether a unit stands here.
+    pub fn is_seat(&self) -> bool
+        ensures { result ≡ is_seat self.now }
+    {
+        self.is_link || (self.attr == 0 && self.other.is_none())
+    }
+
     /// Whether class rows stand here.
     pub fn is_of_class(&self) -> bool
         ensures { result ≡ is_of_class self.now }
@@ -131,6 +138,82 @@ impl Place {
             && self.guid.cmp(&place.guid).is_eq()
             && (self.birth.is_none()
                 || (self.birth.cmp(&place.birth).is_eq() && self.attr <= place.attr))
+    }
+}
+
+/// Where the shelf of an object stands among those of objects.
+#[derive(Clone, Copy, PartialEq, Eq, PartialOrd, Ord)]
+pub struct ObjectSeat {
+    pub guid: Guid,
+    pub birth: Option<Birth>,
+}
+
+impl ObjectSeat {
+    /// That of the object whose row stands at a place.
+    pub fn of(place: &Place) -> ObjectSeat
+        ensures { result ≡ object_seat place.now }
+    {
+        ObjectSeat {
+            guid: place.guid,
+            birth: place.birth,
+        }
+    }
+
+    /// That of an object.
+    pub fn of_object(object: &Oid) -> ObjectSeat
+        ensures { result ≡ object_seat (rows_start object.now) }
+    {
+        ObjectSeat {
+            guid: object.guid,
+            birth: Some(object.birth),
+        }
+    }
+
+    pub fn place(&self) -> Place
+        ensures { result ≡ object_place self.now }
+    {
+        Place {
+            is_link: false,
+            guid: self.guid,
+            birth: self.birth,
+            attr: 0,
+            other: None,
+        }
+    }
+}
+
+/// Where the shelf of a link stands among those of links.
+#[derive(Clone, Copy, PartialEq, Eq, PartialOrd, Ord)]
+pub struct LinkSeat {
+    pub guid: Guid,
+    pub birth: Option<Birth>,
+    pub attr: u16,
+    pub other: Option<Oid>,
+}
+
+impl LinkSeat {
+    /// That of the link whose row stands at a place.
+    pub fn of(place: &Place) -> LinkSeat
+        ensures { result ≡ link_seat place.now }
+    {
+        LinkSeat {
+            guid: place.guid,
+            birth: place.birth,
+            attr: place.attr,
+            other: place.other,
+        }
+    }
+
+    pub fn place(&self) -> Place
+        ensures { result ≡ link_place self.now }
+    {
+        Place {
+            is_link: true,
+            guid: self.guid,
+            birth: self.birth,
+            attr: self.attr,
+            other: self.other,
+        }
     }
 }
 

@@ -175,7 +175,7 @@ impl Shelf {
     }
 
     /// Puts a row into its slot, for which there is one, and tells whether a row was there.
-    fn write(&mut self, attr: u16, row: Held) -> bool
+    pub fn write(&mut self, attr: u16, row: Held) -> bool
         requires rising { IsStrictlySortedBy nat_cmp (keys_of self.old) }
         requires there { IsSome (lookup (is_at (nat_cmp attr)) self.old) }
         ensures was { result ≡ is_some (flat (lookup (is_at (nat_cmp attr)) self.old)) }

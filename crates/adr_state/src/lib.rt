@@ -18,6 +18,7 @@ mod state;
 
 pub use adr_change::{Change, Mode, PartnerMark, covers_birth, covers_update};
 pub use adr_checks::Schema;
+pub use adr_table::Walk;
 pub use adr_update::{
     CLASS, DELETED, Held, Item, Key, LINK_LIMIT, LOG_LIMIT, MARK_LIMIT, NAME, Node, OBJECT_LIMIT,
     Said, USN_LIMIT, Update, VERSION_LIMIT, Written, is_same, is_same_object,

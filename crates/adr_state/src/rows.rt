@@ -1,6 +1,6 @@
 //! The rows that a controller holds, and its live objects.
 
-ghost use Rattle.std.specs.Prelude.{◌≡◌, [], IfOk, IsSome, OnOk, OnErr, Some, false, filter, is_some, length};
+ghost use Rattle.std.specs.Prelude.{◌≡◌, ◌+◌, [], IfOk, IsSome, OnOk, OnErr, Some, false, filter, is_some, length};
 ghost use Rattle.std.specs.List.{find, list_any};
 ghost use Rattle.std.specs.Option.{option_copied, option_map};
 ghost use Rattle.adr_model.specs.Change.{killed_by, rows_after};
@@ -14,12 +14,13 @@ ghost use Rattle.adr_model.specs.Write.{holds_guid, is_of_guid, is_taken, links_
 ghost use Rattle.adr_update.specs.Key.{key_of};
 ghost use Rattle.adr_update.specs.Referents.{referents};
 ghost use Rattle.adr_update.specs.Sought.{IsNextLocal, is_link_from, is_link_to, rows_of_unit, units_at};
+ghost use Rattle.adr_table.specs.Lasts.{AreLasts};
 ghost use Rattle.adr_table.specs.Table.{IsKept, rows_in};
 ghost use Rattle.adr_tree.specs.Parent.{IsParent};
 
 use crate::NoMemory;
 use crate::edits::edits_of;
-use adr_table::Table;
+use adr_table::{Table, Walk};
 use adr_tree::Tree;
 use adr_update::{Held, Key, Node};
 use adr_values::{Guid, Oid, Text, Unit};
@@ -159,6 +160,13 @@ impl Rows {
         ensures { IfOk result (λ units. units.items ≡ units_at self.now usn) }
     {
         self.table.units_at(alloc, usn)
+    }
+
+    /// The units whose last local update sequence numbers are behind this one, each with its number, rising by it.
+    pub fn walk(&self, usn: u64) -> Walk<'_>
+        ensures { AreLasts self.now (usn + 1) result }
+    {
+        self.table.walk(usn)
     }
 
     /// The rows alone.

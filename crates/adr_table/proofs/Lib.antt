@@ -1,5 +1,6 @@
 pub mod Behinds
 pub mod Births
+pub mod Buried
 pub mod Counts
 pub mod Emptied
 pub mod Fills
@@ -22,3 +23,4 @@ pub mod Spans
 pub mod Stripped
 pub mod UnitFrees
 pub mod Units
+pub mod Lasts

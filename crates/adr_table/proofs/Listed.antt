@@ -72,6 +72,17 @@ listed_but slots dead dead' object tidy listed none but h m = by (killed_by h.up
     by None is l = l
     by (Some o) is l = but o ∙ turn o is l (is_at (object_order object) o) refl
 
+-- an object that isn't listed isn't held dead
+pub not_listed : (slots : Slots) (dead : BTreeSet Oid) (o : Oid) → AreListed slots dead → contains object_order dead o ≡ false → false ≡ is_some (row_held (rows_seen slots) (RowOf o deleted_attr))
+not_listed slots dead o listed not_there = by (row_held (rows_seen slots) (RowOf o deleted_attr)) refl
+  where
+    by : (r : Option Held) → row_held (rows_seen slots) (RowOf o deleted_attr) ≡ r → false ≡ is_some r
+    by None is = refl
+    by (Some h) is =
+        let t = is_held (rows_seen slots) (RowOf o deleted_attr) h is in
+        let there : contains object_order dead o ≡ true = subst (IsListed dead) t.1 (listed h t.0) in
+        let wrong : false ≡ true = sym not_there ∙ there in cc
+
 -- ---- the rows of deaths
 
 -- the death row of an object

@@ -56,7 +56,7 @@ among_unit rows u m = by (of_sorted unit_order units_total exact_units (map (λ 
 
 -- ---- hints
 
-member_there : (locals : List Local) (b : Local) → list_any (is_at (local_order b)) locals ≡ true → Member b locals
+pub member_there : (locals : List Local) (b : Local) → list_any (is_at (local_order b)) locals ≡ true → Member b locals
 member_there locals b any =
     let t = some_passes (is_at (local_order b)) locals any in
     subst (λ c. Member c locals) (sym (exact_locals b t.0 (equal_order (local_order b t.0) t.2))) t.1
@@ -68,7 +68,7 @@ picks rows usn hint = cond (eqb hint.usn usn) (unit_hinted rows hint) None
 abbrev pub picked : List Held → ℕ → List Local → List Named
 picked rows usn hints = filter_map (picks rows usn) hints
 
-hinted_tells : (rows : List Held) (hint : Local) (u : Named) → unit_hinted rows hint ≡ Some u → (hint ≡ local_at u hint.usn) × (holds_unit rows u ≡ true) × (last_local rows u ≡ hint.usn)
+pub hinted_tells : (rows : List Held) (hint : Local) (u : Named) → unit_hinted rows hint ≡ Some u → (hint ≡ local_at u hint.usn) × (holds_unit rows u ≡ true) × (last_local rows u ≡ hint.usn)
 hinted_tells rows hint u is_it = by hint.unit refl is_it
   where
     test : (b : Bool) (p : Place) → is_last rows hint ≡ b → hint.unit ≡ Some p → cond b (unit_at p) None ≡ Some u → (hint ≡ local_at u hint.usn) × (holds_unit rows u ≡ true) × (last_local rows u ≡ hint.usn)
@@ -171,10 +171,10 @@ none_first (Some p) = refl
 not_before : (usn : ℕ) (b : Local) → range_contains local_order (Included (first_of usn)) Unbounded b ≡ true → usn ≤ b.usn
 not_before usn b is = le_from_not_gt usn b.usn (not_gt (nat_cmp usn b.usn) (option_cmp place_order None b.unit) is)
 
-behind_first : (usn : ℕ) (b : Local) → usn ≤ b.usn → range_contains local_order (Included (first_of usn)) Unbounded b ≡ true
+pub behind_first : (usn : ℕ) (b : Local) → usn ≤ b.usn → range_contains local_order (Included (first_of usn)) Unbounded b ≡ true
 behind_first usn b le = up_to (nat_cmp usn b.usn) (option_cmp place_order None b.unit) (not_above usn b.usn le) (none_first b.unit)
 
-less_upto : (o x : Ordering) → ordering_then o x ≡ Less → is_gt o ≡ false
+pub less_upto : (o x : Ordering) → ordering_then o x ≡ Less → is_gt o ≡ false
 less_upto Less x e = refl
 less_upto Equal x e = refl
 less_upto Greater x e = cc

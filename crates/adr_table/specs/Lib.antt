@@ -3,3 +3,4 @@ pub mod Back
 pub mod Deaths
 pub mod Table
 pub mod Locals
+pub mod Lasts

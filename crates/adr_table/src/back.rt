@@ -169,7 +169,7 @@ pub(crate) fn forget(slots: &mut Slots, back: &mut BTreeSet<Behind>, link: &Link
     ensures backed { AreBacked slots.new back.new }
 {
     if slots.row(&Key::Link(*link)).is_none() {
-        slots.free(&Place::of_link(link));
+        slots.free(link);
         let _ = back.remove(&Behind::of(link));
     }
 }

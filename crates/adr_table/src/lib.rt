@@ -2,7 +2,7 @@
 //! whole or not at all.
 //!
 //! Rows stand in slots. Those of an object stand on one shelf, in the order of their attributes, and each link has a shelf of
-//! its own. Shelves stand in one ordered map, in the order of their units, so that rows are in the order of their keys.
+//! its own. Shelves stand in the order of their units, objects before links, so that rows are in the order of their keys.
 //!
 //! A write first makes room: a slot and hints for each row. Then it can't fail, and writes the rows of an object by one search
 //! of the map. A single row, or those of an object of which nothing is held, may also be put at once, without room made before.
@@ -17,8 +17,10 @@ mod locals;
 mod slots;
 mod spare;
 mod table;
+mod walk;
 mod write;
 
 pub use adr_update::NoMemory;
 pub use spare::Spare;
 pub use table::Table;
+pub use walk::Walk;

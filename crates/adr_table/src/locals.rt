@@ -194,7 +194,7 @@ fn is_last(slots: &Slots, hint: &Local) -> bool
 }
 
 /// The unit of a hint that has the hint's number as its last.
-fn unit_hinted(slots: &Slots, hint: &Local) -> Option<Unit>
+pub(crate) fn unit_hinted(slots: &Slots, hint: &Local) -> Option<Unit>
     requires { IsTidy slots.now }
     ensures { result ≡ unit_hinted (rows_seen slots.now) hint.now }
 {

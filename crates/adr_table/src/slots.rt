@@ -7,7 +7,8 @@ ghost use Rattle.std.specs.BTreeMap.{is_at};
 ghost use Rattle.std.specs.BTreeMap.Range.{IsFromStart, IsLeBy, entries_between};
 ghost use Rattle.std.specs.declared.ops.Bound.TheVariants.{Included, Unbounded};
 ghost use Rattle.std.specs.List.{cons_option, filter_map, list_all, list_any};
-ghost use Rattle.adr_values.specs.declared.stamp.LinkKey.{LinkKey};
+ghost use Rattle.adr_values.specs.declared.stamp.LinkKey.{LinkKey as Link};
+ghost use Rattle.adr_model.specs.Change.{killed_by};
 ghost use Rattle.adr_model.specs.Live.{born};
 ghost use Rattle.adr_model.specs.Member.{Each};
 ghost use Rattle.adr_model.specs.Store.{holds_object, is_row_of, row_held, with_row};
@@ -22,7 +23,7 @@ ghost use Rattle.adr_table.specs.Slots.{AreFull, HasSlot, IsTidy, places, row_at
 use crate::NoMemory;
 use adr_shelves::{Place, Run, Shelves, Slot};
 use adr_update::{Held, Key, Update};
-use adr_values::Oid;
+use adr_values::{LinkKey, Oid};
 use std::alloc::Global;
 use std::collections::VecDeque;
 use std::ops::Bound;
@@ -100,9 +101,10 @@ impl Slots {
         Ok(made)
     }
 
-    /// Puts a row into the slot of its key, which is made if there is none.
-    pub(crate) fn insert(&mut self, row: Held) -> Result<(), NoMemory>
+    /// Puts a row into the slot of its key, which is made if there is none, and tells whether a row was there.
+    pub(crate) fn insert(&mut self, row: Held) -> Result<bool, NoMemory>
         requires { IsTidy self.old }
+        ensures was { IfOk result (λ was. was ≡ is_some (row_at self.old (place_of row.update.key))) }
         ensures tidy { IsTidy self.new }
         ensures seen { OnOk result (rows_seen self.new ≡ with_row (rows_seen self.old) row) }
         ensures rows { OnOk result ((q : Place) →
@@ -115,10 +117,9 @@ impl Slots {
         let place = Place::of(&row.key());
         let was = self.map.put(place, row)?;
         self.map.are_in_order();
-        let units = self.map.units();
-        self.objects = one_more(units, self.objects, was, place.is_of_class());
-        self.links = one_more(units, self.links, was, place.is_link);
-        Ok(())
+        self.objects = one_more(self.map.objects(), self.objects, was, place.is_of_class());
+        self.links = one_more(self.map.links(), self.links, was, place.is_link);
+        Ok(was)
     }
 
     /// Puts copies of rows of an object of which no row is there, under a local update sequence number. All are put, or none.
@@ -133,13 +134,12 @@ impl Slots {
         requires unheld { holds_object (rows_seen self.old) object.now ≡ false }
         ensures tidy { IsTidy self.new }
         ensures seen { OnOk result (rows_seen self.new ≡ fold with_row (rows_seen self.old) (map (held_at local) rows.now)) }
-        ensures links { (l : LinkKey) → row_at self.new (place_of (LinkOf l)) ≡ row_at self.old (place_of (LinkOf l)) }
+        ensures links { (l : Link) → row_at self.new (place_of (LinkOf l)) ≡ row_at self.old (place_of (LinkOf l)) }
         ensures err { OnErr result (rows_seen self.new ≡ rows_seen self.old) }
     {
         self.map.put_object(object, local, rows)?;
         self.map.are_in_order();
-        let units = self.map.units();
-        self.objects = one_more(units, self.objects, false, has_birth(rows));
+        self.objects = one_more(self.map.objects(), self.objects, false, has_birth(rows));
         Ok(())
     }
 
@@ -154,7 +154,7 @@ impl Slots {
         ensures places { places self.new ≡ places self.old }
     {
         match self.insert(row) {
-            Ok(()) => {}
+            Ok(_) => {}
             Err(_) => unreachable!(),
         }
     }
@@ -166,13 +166,12 @@ impl Slots {
         ensures rest { rows.new.items ≡ behind_front (is_life object.now) rows.old.items }
         ensures tidy { IsTidy self.new }
         ensures seen { rows_seen self.new ≡ fold with_row (rows_seen self.old) (front (is_life object.now) rows.old.items) }
-        ensures links { (l : LinkKey) → row_at self.new (place_of (LinkOf l)) ≡ row_at self.old (place_of (LinkOf l)) }
+        ensures links { (l : Link) → row_at self.new (place_of (LinkOf l)) ≡ row_at self.old (place_of (LinkOf l)) }
         ensures places { places self.new ≡ places self.old }
     {
         let came = self.map.fill_object(object, rows);
         self.map.are_in_order();
-        let units = self.map.units();
-        self.objects = one_more(units, self.objects, false, came);
+        self.objects = one_more(self.map.objects(), self.objects, false, came);
     }
 
     /// Empties the slot of a place, if there is one.
@@ -218,14 +217,28 @@ impl Slots {
         self.map.clear_values(object);
     }
 
-    /// Frees the slot of a place, if it is empty. Nobody sees it.
-    pub(crate) fn free(&mut self, place: &Place)
+    /// Puts a death into its slot, for which there is one, and then empties the slots of the object's rows that aren't
+    /// reserved.
+    pub(crate) fn bury(&mut self, object: &Oid, death: Held)
+        requires tidy { IsTidy self.old }
+        requires kills { killed_by death.update.key ≡ Some object.now }
+        requires room { HasSlot self.old (place_of death.update.key) }
+        ensures tidy { IsTidy self.new }
+        ensures rows { (q : Place) → row_at self.new q ≡ cond (is_in_run (values_start object.now) q) None
+            (cond (is_at (place_order (place_of death.update.key)) q) (Some death) (row_at self.old q)) }
+        ensures places { places self.new ≡ places self.old }
+    {
+        self.map.bury(object, death);
+    }
+
+    /// Frees the slot of a link, if it is empty. Nobody sees it.
+    pub(crate) fn free(&mut self, link: &LinkKey)
         requires { IsTidy self.old }
         ensures seen { rows_seen self.new ≡ rows_seen self.old }
         ensures tidy { IsTidy self.new }
         ensures same { (q : Place) → row_at self.new q ≡ row_at self.old q }
     {
-        self.map.free(place);
+        self.map.free_link(link);
         self.map.are_in_order();
     }
 
@@ -238,7 +251,7 @@ impl Slots {
         ensures full { AreFull self.new object.now }
         ensures still { (o : Oid) → AreFull self.old o → AreFull self.new o }
     {
-        self.map.free_unit(&Place::before_rows(object));
+        self.map.free_object(object);
         self.map.are_in_order();
     }
 

@@ -1,6 +1,6 @@
 //! A table of rows, and what is looked up in it.
 
-ghost use Rattle.std.specs.Prelude.{◌≡◌, [], IfOk, filter, is_some, length};
+ghost use Rattle.std.specs.Prelude.{◌≡◌, ◌+◌, [], IfOk, filter, is_some, length};
 ghost use Rattle.std.specs.Option.{option_copied};
 ghost use Rattle.adr_model.specs.Change.{killed_by};
 ghost use Rattle.adr_model.specs.Formed.{AreRising};
@@ -10,6 +10,7 @@ ghost use Rattle.adr_model.specs.Write.{holds_guid, is_of_guid, links_in};
 ghost use Rattle.adr_update.specs.Key.{key_of};
 ghost use Rattle.adr_update.specs.Referents.{referents};
 ghost use Rattle.adr_update.specs.Sought.{IsNextLocal, is_link_from, is_link_to, rows_of_unit, units_at};
+ghost use Rattle.adr_table.specs.Lasts.{AreLasts};
 ghost use Rattle.adr_table.specs.Table.{AreNumbered, IsKept, rows_in};
 
 use crate::NoMemory;
@@ -17,6 +18,7 @@ use crate::back::{Behind, rows_behind};
 use crate::deaths::deaths;
 use crate::locals::{Local, next_local, units_at};
 use crate::slots::Slots;
+use crate::walk::Walk;
 use adr_shelves::Place;
 use adr_update::{Held, Key};
 use adr_values::{Guid, Oid, Unit};
@@ -79,7 +81,8 @@ impl Table {
         requires { IsKept self.now }
         ensures { result ≡ holds_dead (rows_in self.now) object.now }
     {
-        self.slots.row(&Key::deleted(object)).is_some()
+        // An object that is listed may have no death, so its row decides.
+        self.dead.contains(object) && self.slots.row(&Key::deleted(object)).is_some()
     }
 
     /// Whether an object of a GUID is held, live or dead.
@@ -185,6 +188,15 @@ impl Table {
         ensures { IfOk result (λ units. units.items ≡ units_at (rows_in self.now) usn) }
     {
         units_at(alloc, &self.slots, &self.locals, usn)
+    }
+
+    /// The units whose last local update sequence numbers are behind this one, each with its number, rising by it.
+    pub fn walk(&self, usn: u64) -> Walk<'_>
+        requires kept { IsKept self.now }
+        requires numbered { AreNumbered self.now }
+        ensures { AreLasts (rows_in self.now) (usn + 1) result }
+    {
+        Walk::new(&self.slots, &self.locals, usn)
     }
 
     /// The keys of rows rise.

@@ -1,10 +1,11 @@
 //! How rows are written into a table.
 
-ghost use Rattle.std.specs.Prelude.{◌≡◌, ◌<◌, [], IfSome, None, OnErr, OnOk, Some, false, fold, length, map, true};
+ghost use Rattle.std.specs.Prelude.{◌≡◌, ◌<◌, [], IfOk, IfSome, None, OnErr, OnOk, Some, false, fold, is_some, length, map, true};
 ghost use Rattle.std.specs.List.{All, list_all};
-ghost use Rattle.adr_model.specs.Change.{put, rows_after, stripped, without_object};
-ghost use Rattle.adr_model.specs.Store.{Held as Row, holds_object};
-ghost use Rattle.adr_table.specs.Slots.{AreFull, IsTidy, places, row_at, rows_seen};
+ghost use Rattle.adr_model.specs.Change.{killed_by, put, rows_after, stripped, without_object};
+ghost use Rattle.adr_model.specs.Store.{Held as Row, holds_object, row_held, with_row};
+ghost use Rattle.adr_shelves.specs.Place.{place_of};
+ghost use Rattle.adr_table.specs.Slots.{AreFull, HasSlot, IsTidy, places, row_at, rows_seen};
 ghost use Rattle.adr_table.specs.Back.{AreBacked};
 ghost use Rattle.adr_table.specs.Deaths.{AreListed};
 ghost use Rattle.adr_table.specs.Locals.{AreLocated};
@@ -34,6 +35,22 @@ fn strip(slots: &mut Slots, back: &BTreeSet<Behind>, object: &Oid)
 {
     empty_links_to(slots, back, object);
     slots.empty_values(object);
+    slots.empty_run(Place::before_links(object));
+}
+
+/// Puts a death into its slot, for which there is one, and empties the slots of what goes with its object.
+fn bury(slots: &mut Slots, back: &BTreeSet<Behind>, object: &Oid, death: Held)
+    requires tidy { IsTidy slots.old }
+    requires backed { AreBacked slots.old back.now }
+    requires kills { killed_by death.update.key ≡ Some object.now }
+    requires room { HasSlot slots.old (place_of death.update.key) }
+    ensures tidy { IsTidy slots.new }
+    ensures seen { rows_seen slots.new ≡ stripped (Some object.now) (with_row (rows_seen slots.old) death) }
+    ensures backed { AreBacked slots.new back.now }
+    ensures places { places slots.new ≡ places slots.old }
+{
+    slots.bury(object, death);
+    empty_links_to(slots, back, object);
     slots.empty_run(Place::before_links(object));
 }
 
@@ -108,10 +125,9 @@ impl Table {
         ensures numbered { AreNumbered self.new }
         ensures more { (h : Row) → HasRoom self.old h → HasRoom self.new h }
     {
-        let key = row.key();
-        self.slots.write(row);
-        if let Some(object) = key.killed() {
-            strip(&mut self.slots, &self.back, &object);
+        match row.key().killed() {
+            Some(object) => bury(&mut self.slots, &self.back, &object, row),
+            None => self.slots.write(row),
         }
     }
 
@@ -179,8 +195,9 @@ impl Table {
         }
     }
 
-    /// Lets go of slots and hints that no row needs. Nobody sees them.
-    fn free(&mut self, spare: &Spare)
+    /// Lets go of slots and hints that no row needs. Nobody sees them. Of the objects only those that were removed may be
+    /// listed as dead and not be so.
+    fn free(&mut self, spare: &Spare, removed: &[Oid])
         requires kept { IsKept self.old }
         requires numbered { AreNumbered self.old }
         ensures rows { rows_in self.new ≡ rows_in self.old }
@@ -189,7 +206,7 @@ impl Table {
     {
         free_all(&mut self.slots, spare.objects.as_slice());
         forget_all(&mut self.slots, &mut self.back, spare.links.as_slice());
-        forget_dead(&self.slots, &mut self.dead, spare.objects.as_slice());
+        forget_dead(&self.slots, &mut self.dead, removed);
         forget_locals(&self.slots, &mut self.locals, spare.locals.as_slice());
     }
 
@@ -205,13 +222,14 @@ impl Table {
     {
         self.put_all(rows);
         self.remove_all(removed);
-        self.free(&spare);
+        self.free(&spare, removed);
     }
 
-    /// Puts a row for which no room was made. A death takes its object's other rows and its links. The row gets no hint of
-    /// its number.
-    pub fn put_now(&mut self, row: Held) -> Result<(), NoMemory>
+    /// Puts a row for which no room was made, and tells whether a row of its key was there. A death takes its object's other
+    /// rows and its links. The row gets no hint of its number.
+    pub fn put_now(&mut self, row: Held) -> Result<bool, NoMemory>
         requires { IsKept self.old }
+        ensures was { IfOk result (λ was. was ≡ is_some (row_held (rows_in self.old) row.update.key)) }
         ensures kept { IsKept self.new }
         ensures ok { OnOk result (rows_in self.new ≡ put (rows_in self.old) row) }
         ensures err { OnErr result (rows_in self.new ≡ rows_in self.old) }
@@ -219,11 +237,11 @@ impl Table {
         let key = row.key();
         back::remember(&mut self.back, &key)?;
         deaths::remember(&mut self.dead, &key)?;
-        self.slots.insert(row)?;
+        let was = self.slots.insert(row)?;
         if let Some(object) = key.killed() {
             strip(&mut self.slots, &self.back, &object);
         }
-        Ok(())
+        Ok(was)
     }
 
     /// Puts copies of rows of an object of which nothing is held, none of them a death, under a local update sequence number,

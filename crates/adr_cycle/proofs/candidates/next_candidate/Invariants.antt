@@ -1,13 +1,10 @@
-use Rattle.std.proofs.Common.{◌≡◌, ◌≤◌, ◌-◌, ◌^◌}
-use Rattle.adr_cycle.specs.Candidates.{next_candidate}
+use Rattle.std.proofs.Common.{length}
+use Rattle.adr_cycle.specs.Candidates.{AreBehind}
 use Rattle.adr_cycle.proofs.candidates.next_candidate.Given as goal
 
--- the first item behind what is passed is the one that is looked for
+-- no item was passed
 abbrev pub invariant-loop-local : goal.invariant-loop-local
-invariant-loop-local l = record {
-  above : l.from.obj ≤ l.passed;
-  same : next_candidate l.rows l.from l.asked l.passed ≡ next_candidate l.rows l.from l.asked l.usn;
-}
+invariant-loop-local l = AreBehind l.rows l.from l.asked l.usn l.walk
 
 abbrev pub decreases-loop-local : goal.decreases-loop-local
-decreases-loop-local l = 2 ^ 64 - l.passed
+decreases-loop-local l = length l.walk

@@ -1,5 +1,7 @@
-use Rattle.std.proofs.Common.{◌≡◌, ◌≤◌, ◌++◌}
+use Rattle.std.proofs.Common.{◌≡◌, ◌≤◌, ◌++◌, ℕ, fold}
+use Rattle.adr_model.specs.Change.{Item}
 use Rattle.adr_model.specs.Serve.{byte_limit, candidates, first_items}
+use Rattle.adr_cycle.specs.Candidates.{AreBehind}
 use Rattle.adr_cycle.proofs.Numbered.{behind}
 use Rattle.adr_cycle.proofs.replying.first_items.Given as goal
 
@@ -8,6 +10,8 @@ abbrev pub invariant-loop-most : goal.invariant-loop-most
 invariant-loop-most l = record {
   above : l.from.obj ≤ l.last;
   whole : l.sent.items ++ first_items l.most l.bytes (behind l.last (candidates l.rows l.from l.asked)) ≡ first_items l.fn.most byte_limit (candidates l.rows l.from l.asked);
+  left : AreBehind l.rows l.from l.asked l.last l.walk;
+  end : l.last ≡ fold (λ n (c : ℕ × Item). c.0) l.from.obj l.sent.items;
 }
 
 abbrev pub decreases-loop-most : goal.decreases-loop-most

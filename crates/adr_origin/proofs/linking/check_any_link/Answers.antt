@@ -21,18 +21,9 @@ returns-in_err-check_ends-clause-told c =
     (second_of_three _ _ _ _ (c.in_ok-check_start.ensures ∙ ap (λ (m : Mode). start_refusal m c.args.ends.now.from c.args.ends.now.to) c.mode.ensures) c.in_err-check_ends.ensures
     ∙ sym (link_in_parts c.args.state.now c.args.ends.now.from c.args.ends.now.attr c.args.ends.now.to c.args.present))
 
-pub returns-in_err-check_write-clause-told : goal.returns-in_err-check_write-clause-told
-returns-in_err-check_write-clause-told c =
-    let p = err_from_is_err_and c.from_residual-in_err-check_write.result c.from_residual-in_err-check_write.ensures.1 in
-    rw (p.1, p.2)
-    (c.in_err-check_write.ensures.told
-    ∙ (ap (λ (l : LinkKey). write_refusal c.args.state.now l c.args.present) c.link_of-link.ensures
-    ∙ (third_of_three _ _ _ (c.in_ok-check_start.ensures ∙ ap (λ (m : Mode). start_refusal m c.args.ends.now.from c.args.ends.now.to) c.mode.ensures) c.in_ok-check_ends.ensures
-    ∙ sym (link_in_parts c.args.state.now c.args.ends.now.from c.args.ends.now.attr c.args.ends.now.to c.args.present))))
-
 pub returns-clause-told : goal.returns-clause-told
 returns-clause-told c =
-    c.in_ok-check_write.ensures.told
-    ∙ (ap (λ (l : LinkKey). write_refusal c.args.state.now l c.args.present) c.link_of-link.ensures
+    c.check_write.ensures.told
+    ∙ (ap (λ (l : LinkKey). write_refusal c.args.state.now l c.args.present) c.requires.named
     ∙ (third_of_three _ _ _ (c.in_ok-check_start.ensures ∙ ap (λ (m : Mode). start_refusal m c.args.ends.now.from c.args.ends.now.to) c.mode.ensures) c.in_ok-check_ends.ensures
     ∙ sym (link_in_parts c.args.state.now c.args.ends.now.from c.args.ends.now.attr c.args.ends.now.to c.args.present)))

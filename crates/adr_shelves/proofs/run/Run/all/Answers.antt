@@ -1,7 +1,8 @@
-use Rattle.adr_shelves.proofs.ShelvedRuns.{begun_all}
+use Rattle.std.proofs.Common.{◌∙◌, ap}
+use Rattle.adr_shelves.specs.Shelves.{all_shelves, entries_of}
+use Rattle.adr_shelves.proofs.ShelvedRuns.{every}
 use Rattle.adr_shelves.proofs.run.Run.all.Goals as goal
 
-pub returns-in-Some : goal.returns-in-Some
-returns-in-Some c =
-    begun_all c.args.shelves.now.entries c.range-shelves.result c.next.new.self c.in-Some.first.now c.in-Some.shelf.now c.slots.result.now
-    (c.range-shelves.ensures.between tt) c.in-Some.ensures.steps c.slots.ensures
+pub returns : goal.returns
+returns c =
+    ap entries_of (c.with_links.ensures ∙ ap (λ os. all_shelves os c.args.links.now.entries) (c.range.ensures.between tt ∙ every c.args.objects.now.entries))

@@ -7,7 +7,7 @@ pub one_more-self-requires : goal.one_more-self-requires
 one_more-self-requires c =
     let are = filled c.args.object.now (front (is_life c.args.object.now) c.args.rows.now.items) c.args.self.now.map c.fill_object-came.new.self c.requires.tidy.ordered c.requires.tidy.home
     (front_lives c.args.object.now c.args.rows.now.items) c.fill_object-came.ensures.entries in
-    subst (λ n. n ≤ c.units-units.result) (filled_count are c.fill_object-came.result c.fill_object-came.ensures.came c.args.self.now.objects c.requires.tidy.objects) c.units-units.ensures.classes
+    subst (λ n. n ≤ c.objects.result) (filled_count are c.fill_object-came.result c.fill_object-came.ensures.came c.args.self.now.objects c.requires.tidy.objects) c.objects.ensures
 
 pub returns-clause-tidy : goal.returns-clause-tidy
 returns-clause-tidy c =

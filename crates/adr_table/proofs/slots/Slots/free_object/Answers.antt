@@ -14,8 +14,8 @@ use Rattle.adr_table.proofs.slots.Slots.free_object.Goals.{After-are_in_order}
 abbrev of_object : After-are_in_order → Place → Bool
 of_object c = is_of_unit (rows_start c.args.object.now)
 
-left : (c : After-are_in_order) → c.free_unit.new.self ≡ freed (of_object c) c.args.self.now.map
-left c = c.free_unit.ensures ∙ ap (λ (s : Place). freed (is_of_unit s) c.args.self.now.map) c.before_rows.ensures.place
+left : (c : After-are_in_order) → c.free_object.new.self ≡ freed (of_object c) c.args.self.now.map
+left c = c.free_object.ensures
 
 pub returns-clause-seen : goal.returns-clause-seen
 returns-clause-seen c = ap seen (left c) ∙ freed_seen (of_object c) c.args.self.now.map

@@ -14,13 +14,13 @@ one_more-self-requires c =
     put_room is_of_class c.args.self.now.map c.put.new.self c.of-place.result c.args.row c.in_ok-was.ensures.entries c.requires.ordered
     (not c.in_ok-was.was' && c.is_of_class.result)
     (ap (λ b. not b && c.is_of_class.result) c.in_ok-was.ensures.was ∙ ap (λ b. not (is_some (flat (lookup (is_at (place_order c.of-place.result)) c.args.self.now.map))) && b) c.is_of_class.ensures)
-    c.args.self.now.objects c.requires.objects c.units-units.result c.units-units.ensures.classes
+    c.args.self.now.objects c.requires.objects c.objects.result c.objects.ensures
 
 pub one_more-self-requires-2 : goal.one_more-self-requires-2
 one_more-self-requires-2 c =
     put_room is_of_link c.args.self.now.map c.put.new.self c.of-place.result c.args.row c.in_ok-was.ensures.entries c.requires.ordered
     (not c.in_ok-was.was' && c.of-place.result.is_link) (ap (λ b. not b && c.of-place.result.is_link) c.in_ok-was.ensures.was) c.args.self.now.links c.requires.links
-    c.units-units.result c.units-units.ensures.links
+    c.links.result c.links.ensures
 
 pub returns-clause-seen : goal.returns-clause-seen
 returns-clause-seen c =
