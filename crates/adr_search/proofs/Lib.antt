@@ -1,3 +1,8 @@
+pub mod Climbing
+pub mod Counting
 pub mod Figures
 pub mod First
+pub mod Judging
+pub mod Placed
 pub mod Tables
+pub mod Walking

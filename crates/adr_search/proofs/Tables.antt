@@ -1,11 +1,10 @@
 -- What is found in a table of the code is what is found in the schema.
-use Rattle.std.proofs.Common.{◌≡◌, ◌==◌, ℕ, List, [], ◌∷◌, Bool, true, false, cond, Option, Some, None, map, refl, ap, ◌∙◌}
+use Rattle.std.proofs.Common.{◌≡◌, ◌==◌, ℕ, List, [], ◌∷◌, Bool, true, false, cond, Option, Some, None, refl, ap, ◌∙◌}
 use Rattle.std.specs.List.{find}
 use Rattle.std.specs.Option.{option_map, option_map_or, option_and_then}
 use Rattle.std.specs.Str.{bytes_eq}
 use Rattle.adr_values.specs.Schemas.{newest}
-use Rattle.adr_values.specs.Table.{Attribute, Class, class_at}
-use Rattle.adr_search.specs.declared.fields.Field.{Field}
+use Rattle.adr_values.specs.Table.{Attribute, Class}
 use Rattle.adr_search.specs.declared.fields.Row.{Row as Held}
 use Rattle.adr_search.specs.declared.fields.ClassRow.{ClassRow}
 use Rattle.adr_search.specs.Fields.{field_among, field_of, lowered}

@@ -1,5 +1,5 @@
 -- What the name of an attribute stands for in an entry.
-use Rattle.std.specs.Prelude.{ℕ, ◌+◌, List, ◌&&◌, ◌||◌, nat_le, map, find, Option, Some, None, option_map, option_and_then, if◌then◌else◌, codes}
+use Rattle.std.specs.Prelude.{ℕ, ◌+◌, List, ◌&&◌, ◌||◌, nat_le, map, find, Option, Some, None, option_and_then, if◌then◌else◌, codes}
 use Rattle.std.specs.Str.{bytes_eq}
 use Rattle.adr_values.specs.Table.{Attribute}
 use Rattle.adr_values.specs.Schemas.{newest}

@@ -7,3 +7,8 @@ pub mod Match
 pub mod Rows
 pub mod Scopes
 pub mod Seen
+pub mod Below
+pub mod Line
+pub mod Plans
+pub mod Searched
+pub mod Ways

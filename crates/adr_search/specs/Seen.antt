@@ -1,5 +1,5 @@
 -- What the tests of the code stand for.
-use Rattle.std.specs.Prelude.{ℕ, ℤ, List, Bool, Option, Some, None}
+use Rattle.std.specs.Prelude.{ℕ, ℤ, List, Option, Some, None}
 use Rattle.adr_search.specs.Asked.{Asked, is_there, is_equal, is_from, is_to, has_pieces, Test, texts, octets, numbers, flags, guids}
 use Rattle.adr_search.specs.declared.asked.Asked.{Asked as Wanted}
 use Rattle.adr_search.specs.declared.asked.Asked.TheVariants as wanted

@@ -1,11 +1,13 @@
 //! The definitions of a search, computed on directories small enough to be followed by hand. Each function's contract is
 //! what is found, worked out by the rules; there is no code.
 
-ghost use Rattle.std.specs.Prelude.{◌≡◌, [], ◌∷◌, Some, None, codes, false, map, true};
+ghost use Rattle.std.specs.Prelude.{◌≡◌, [], ◌∷◌, Some, None, Ok, Err, codes, false, map, true};
 ghost use Rattle.adr_filter.specs.declared.filter.Scope.TheVariants.{Base, One, Sub};
 ghost use Rattle.adr_filter.specs.Places.{bad_place, filter_of};
+ghost use Rattle.adr_search.specs.declared.refusal.SearchRefusal.TheVariants.{BadFilter, NoBase};
+ghost use Rattle.adr_search.specs.Line.{search_line, session_line};
 ghost use Rattle.adr_search.specs.Scopes.{has_base};
-ghost use Rattle.adr_test_filters.specs.Searches.{finds, found_there, identifier, lost_person, office, one_person};
+ghost use Rattle.adr_test_filters.specs.Searches.{answers, asking, circle, finds, found_there, identifier, lost_person, office, one_person};
 
 /// One person under the root, and one that lost its parent.
 #[tactic(none)]
@@ -52,4 +54,30 @@ pub fn found_by_tests()
         ≡ Some (identifier 18 ∷ []) ∷ Some (identifier 18 ∷ []) ∷ Some [] ∷ [] }
     ensures unknown { found_there (codes "(|(colour=x)(class=container))" ∷ codes "(&(colour=x)(name=*))" ∷ codes "(!(deleted=*))" ∷ [])
         ≡ Some (identifier 19 ∷ []) ∷ Some [] ∷ Some [] ∷ [] }
+{}
+
+/// What a search answers whose filter is a text: a text that is none is refused before a base that isn't there.
+#[tactic(none)]
+pub fn answered_searches()
+    ensures named { answers one_person 1 Sub (codes "(&(objectClass=user)(name=a*n))") ≡ Ok (identifier 16 ∷ []) }
+    ensures root { answers one_person 1 Base (codes "(name=*)") ≡ Ok [] }
+    ensures denied { answers one_person 1 One (codes "(!(mail=x))") ≡ Ok (identifier 16 ∷ []) }
+    ensures unknown { answers one_person 1 One (codes "(!(colour=x))") ≡ Ok [] }
+    ensures cut { answers one_person 1 Sub (codes "(name=a") ≡ Err (BadFilter 7) }
+    ensures approximate { answers one_person 1 Sub (codes "(mail~=x)") ≡ Err (BadFilter 5) }
+    ensures no_base { answers one_person 9 Sub (codes "(name=*)") ≡ Err (NoBase (identifier 9)) }
+    ensures cut_before_base { answers one_person 9 Sub (codes "(name=a") ≡ Err (BadFilter 7) }
+    ensures around { answers circle 1 Sub (codes "(name=*)") ≡ Ok [] }
+    ensures within { answers circle 16 Sub (codes "(name=*)") ≡ Ok (identifier 16 ∷ identifier 17 ∷ []) }
+{}
+
+/// Lines that ask for a search, behind their verb.
+#[tactic(none)]
+pub fn lines_of_searches()
+    ensures named { search_line (codes " A #1 sub \"(name=*)\"") ≡ Some (codes "A", asking 1 Sub (codes "(name=*)")) }
+    ensures session { session_line (codes " #10 one \"(mail=x y)\" ") ≡ Some (asking 16 One (codes "(mail=x y)")) }
+    ensures no_filter { session_line (codes " #2 base \"(\"") ≡ Some (asking 2 Base (codes "(")) }
+    ensures scope { session_line (codes " #1 all \"(name=*)\"") ≡ None }
+    ensures more { session_line (codes " #1 sub \"(name=*)\" x") ≡ None }
+    ensures bare { session_line (codes " #1 sub (name=*)") ≡ None }
 {}

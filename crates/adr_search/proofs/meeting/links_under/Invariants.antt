@@ -1,4 +1,4 @@
-use Rattle.std.proofs.Common.{◌≡◌, ℕ, List, drop}
+use Rattle.std.proofs.Common.{◌≡◌, drop}
 use Rattle.adr_search.specs.Match.{under}
 use Rattle.adr_search.proofs.meeting.links_under.Given as goal
 

@@ -1,5 +1,4 @@
-use Rattle.std.proofs.Common.{◌≡◌, ℕ, List, drop}
-use Rattle.adr_values.specs.declared.content.Value.{Value}
+use Rattle.std.proofs.Common.{◌≡◌, drop}
 use Rattle.adr_search.specs.Match.{under}
 use Rattle.adr_search.proofs.meeting.values_under.Given as goal
 

@@ -1,4 +1,4 @@
-use Rattle.std.proofs.Common.{ap, ◌∙◌, sym, subst, ◌≡◌, List, ℕ, None, Some, true, false, drop, length}
+use Rattle.std.proofs.Common.{ap, ◌∙◌, sym, ◌≡◌, List, ℕ, Some, true, false, drop, length}
 use Rattle.adr_search.specs.Pieces.{begins_with}
 use Rattle.adr_search.proofs.First.{here, passed}
 use Rattle.adr_search.proofs.pieces.behind.Goals as goal

@@ -1,4 +1,4 @@
-use Rattle.std.proofs.Common.{ap, ◌∙◌, subst, ◌≡◌, List, ℕ, None, Some}
+use Rattle.std.proofs.Common.{◌∙◌, subst, ◌≡◌, List, ℕ, None, Some}
 use Rattle.adr_search.specs.Behind.{behind}
 use Rattle.adr_search.proofs.First.{stuck, turned}
 use Rattle.adr_search.proofs.pieces.in_turn.Goals as goal
