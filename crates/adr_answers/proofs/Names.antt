@@ -8,7 +8,7 @@ use Rattle.std.proofs.lemmas.Bool.{and_parts, eqb-true, ltb-true}
 use Rattle.std.proofs.lemmas.Bool.Decides.{nat_tests}
 use Rattle.std.proofs.lemmas.Fmt.{decimal_injective}
 use Rattle.adr_values.specs.Names.{class_name, class_number, attribute_name, attribute_number}
-use Rattle.adr_values.specs.Schemas.{newest, schema_1, schema_2, spoken}
+use Rattle.adr_values.specs.Schemas.{newest, schema_2, spoken}
 use Rattle.adr_values.specs.Table.{Class, Attribute, attribute_at, class_at, is_link, kind_at}
 use Rattle.adr_token.specs.Spelling.{name_or_number, class_token, attribute_token}
 use Rattle.adr_token.proofs.ClassLaws.{class_named, class_told, attribute_named, attribute_told}

@@ -44,24 +44,13 @@ pub fn name_of(event: &Event) -> &Text
     ensures { result.now ≡ name_of event.now }
 {
     match event {
-        Event::Controller { name, .. } => name,
+        Event::Comes { name, .. } => name,
         Event::Calls { name, .. } => name,
-        Event::Ask { name, .. } => name,
-        Event::Serve { name, .. } => name,
-        Event::Deliver { name, .. } => name,
-        Event::Revive { name, .. } => name,
-        Event::Backup { name, .. } => name,
-        Event::Restore { name, .. } => name,
-        Event::Install { name, .. } => name,
-        Event::Snapshot { name, .. } => name,
-        Event::Rollback { name, .. } => name,
-        Event::StopAfter { name, .. } => name,
-        Event::Fail { name, .. } => name,
-        Event::Stop { name, .. } => name,
-        Event::Start { name, .. } => name,
-        Event::Report { name, .. } => name,
-        Event::Time { .. } | Event::Pull { .. } | Event::Cycle { .. } | Event::Ring { .. } => {
-            unreachable!()
-        }
+        Event::Uses { name, .. } => name,
+        Event::Binds { name, .. } => name,
+        Event::Asks { name, .. } => name,
+        Event::Goes { name, .. } => name,
+        Event::Meets { name, .. } => name,
+        Event::Time { .. } => unreachable!(),
     }
 }

@@ -8,6 +8,16 @@ use Rattle.adr_call.specs.declared.report.Report.{Report}
 use Rattle.adr_call.specs.declared.report.Report.TheVariants as reports
 use Rattle.adr_call.specs.declared.event.Event.{Event}
 use Rattle.adr_call.specs.declared.event.Event.TheVariants as events
+use Rattle.adr_call.specs.declared.event.Coming.{Coming}
+use Rattle.adr_call.specs.declared.event.Coming.TheVariants as comings
+use Rattle.adr_call.specs.declared.event.Use.{Use}
+use Rattle.adr_call.specs.declared.event.Use.TheVariants as uses
+use Rattle.adr_call.specs.declared.event.Made.{Made}
+use Rattle.adr_call.specs.declared.event.Made.TheVariants as mades
+use Rattle.adr_call.specs.declared.event.Exchange.{Exchange}
+use Rattle.adr_call.specs.declared.event.Exchange.TheVariants as exchanges
+use Rattle.adr_call.specs.declared.event.Meeting.{Meeting}
+use Rattle.adr_call.specs.declared.event.Meeting.TheVariants as meetings
 use Rattle.adr_call.specs.declared.verb.Verb.{Verb}
 use Rattle.adr_call.specs.declared.verb.Verb.TheVariants.{Controller, Time, Add, Modify, Rename, Delete, Link, Unlink, Ask, Serve, Deliver, Pull, Cycle, Ring, Collect, Upgrade, Revive, Backup, Restore, Install, Snapshot, Rollback, Stop, Fail, Start, Show, Vector, Marks, Meta}
 
@@ -63,48 +73,53 @@ verb_of_report reports.Vector = Vector
 verb_of_report reports.Marks = Marks
 verb_of_report (reports.Meta guid) = Meta
 
+-- the verb of a line of each other kind
+
+abbrev pub verb_of_coming : Coming → Verb
+verb_of_coming (comings.Fresh dsa) = Controller
+verb_of_coming (comings.Installed dsa image) = Install
+verb_of_coming (comings.Restored image) = Restore
+
+abbrev pub verb_of_use : Use → Verb
+verb_of_use uses.Deliver = Deliver
+verb_of_use (uses.Revive guid parent text) = Revive
+verb_of_use uses.Rollback = Rollback
+
+abbrev pub verb_of_made : Made → Verb
+verb_of_made (mades.Ask partner max version) = Ask
+verb_of_made (mades.Serve request) = Serve
+verb_of_made mades.Backup = Backup
+verb_of_made mades.Snapshot = Snapshot
+
+abbrev pub verb_of_exchange : Exchange → Verb
+verb_of_exchange (exchanges.Pull source max) = Pull
+verb_of_exchange (exchanges.Cycle source max) = Cycle
+verb_of_exchange (exchanges.Ring others rounds max) = Ring
+
+abbrev pub verb_of_meeting : Meeting → Verb
+verb_of_meeting meetings.Stop = Stop
+verb_of_meeting meetings.Start = Start
+verb_of_meeting (meetings.StopAfter calls how) = Stop
+verb_of_meeting (meetings.Fail calls) = Fail
+
 -- the verb of an event's line
 abbrev pub verb_of : Event → Verb
-verb_of (events.Controller name dsa inv) = Controller
 verb_of (events.Time now) = Time
+verb_of (events.Comes name inv how) = verb_of_coming how
 verb_of (events.Calls name what) = verb_of_call what
-verb_of (events.Ask name partner max version bind) = Ask
-verb_of (events.Serve name request bind) = Serve
-verb_of (events.Deliver name reply) = Deliver
-verb_of (events.Pull name source max) = Pull
-verb_of (events.Cycle name source max) = Cycle
-verb_of (events.Ring name others rounds max) = Ring
-verb_of (events.Revive name guid image parent text) = Revive
-verb_of (events.Backup name bind) = Backup
-verb_of (events.Restore name image inv) = Restore
-verb_of (events.Install name dsa image inv) = Install
-verb_of (events.Snapshot name bind) = Snapshot
-verb_of (events.Rollback name snapshot) = Rollback
-verb_of (events.StopAfter name calls how) = Stop
-verb_of (events.Fail name calls) = Fail
-verb_of (events.Stop name) = Stop
-verb_of (events.Start name) = Start
-verb_of (events.Report name what) = verb_of_report what
+verb_of (events.Uses name what bind) = verb_of_use what
+verb_of (events.Binds name what bind) = verb_of_made what
+verb_of (events.Asks name what) = verb_of_report what
+verb_of (events.Goes name what) = verb_of_exchange what
+verb_of (events.Meets name what) = verb_of_meeting what
 
 -- the controller that a line goes to, if there is one
 abbrev pub name_of : Event → List ℕ
-name_of (events.Controller name dsa inv) = name
 name_of (events.Time now) = []
+name_of (events.Comes name inv how) = name
 name_of (events.Calls name what) = name
-name_of (events.Ask name partner max version bind) = name
-name_of (events.Serve name request bind) = name
-name_of (events.Deliver name reply) = name
-name_of (events.Pull name source max) = name
-name_of (events.Cycle name source max) = name
-name_of (events.Ring name others rounds max) = name
-name_of (events.Revive name guid image parent text) = name
-name_of (events.Backup name bind) = name
-name_of (events.Restore name image inv) = name
-name_of (events.Install name dsa image inv) = name
-name_of (events.Snapshot name bind) = name
-name_of (events.Rollback name snapshot) = name
-name_of (events.StopAfter name calls how) = name
-name_of (events.Fail name calls) = name
-name_of (events.Stop name) = name
-name_of (events.Start name) = name
-name_of (events.Report name what) = name
+name_of (events.Uses name what bind) = name
+name_of (events.Binds name what bind) = name
+name_of (events.Asks name what) = name
+name_of (events.Goes name what) = name
+name_of (events.Meets name what) = name

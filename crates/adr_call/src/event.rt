@@ -1,4 +1,4 @@
-//! The events of a run.
+//! The events of a run, by their kinds.
 
 use crate::names::Names;
 use crate::{Call, Report, Text};
@@ -8,117 +8,99 @@ use adr_values::Guid;
 /// What happens. `name` names the controller that it happens to.
 #[derive(Drop)]
 pub enum Event {
-    /// A new, empty controller.
-    Controller {
-        name: Text,
-        dsa: Guid,
-        inv: Guid,
-    },
     /// The time, in seconds, of the events that follow.
-    Time {
-        now: u64,
-    },
+    Time { now: u64 },
+    /// A controller comes to be, or comes back, under an invocation identifier that nothing had before.
+    Comes { name: Text, inv: Guid, how: Coming },
     /// A client has the controller do something.
-    Calls {
-        name: Text,
-        what: Call,
+    Calls { name: Text, what: Call },
+    /// The controller does something with what is bound to a name.
+    Uses { name: Text, what: Use, bound: Text },
+    /// What the controller makes is bound to a name.
+    Binds { name: Text, what: Made, bound: Text },
+    /// A client asks the controller for a report.
+    Asks { name: Text, what: Report },
+    /// The controller pulls from others.
+    Goes { name: Text, what: Exchange },
+    /// Something befalls the controller or its disk.
+    Meets { name: Text, what: Meeting },
+}
+
+/// How a controller comes to be, or comes back.
+#[derive(Drop)]
+pub enum Coming {
+    /// New and empty.
+    Fresh { dsa: Guid },
+    /// An image is adopted as a new controller.
+    Installed { dsa: Guid, image: Text },
+    /// An image is adopted as the controller.
+    Restored { image: Text },
+}
+
+/// What a controller does with what is bound to a name.
+#[derive(Drop)]
+pub enum Use {
+    /// It takes a reply.
+    Deliver,
+    /// A client has an object of an image come again, under a new birth.
+    Revive {
+        guid: Guid,
+        parent: Guid,
+        text: Text,
     },
-    /// The controller asks a partner for at most `max` items, in version 1 or 2; the request is bound to a name.
+    /// A snapshot is put back as its disk.
+    Rollback,
+}
+
+/// What a controller makes.
+#[derive(Drop)]
+pub enum Made {
+    /// A request to a partner, for at most `max` items, in version 1 or 2.
     Ask {
-        name: Text,
         partner: Text,
         max: u32,
         version: u16,
-        bound: Text,
     },
-    /// The controller answers a request; the reply is bound to a name.
+    /// The reply to the request of that name.
     Serve {
-        name: Text,
         request: Text,
-        bound: Text,
     },
-    /// The controller takes a reply.
-    Deliver {
-        name: Text,
-        reply: Text,
-    },
-    /// The controller asks a partner and takes the reply.
+    /// The image of its state.
+    Backup,
+    /// The bytes of its disk.
+    Snapshot,
+}
+
+/// How controllers pull.
+#[derive(Drop)]
+pub enum Exchange {
+    /// The controller asks a partner for at most `max` items and takes the reply.
     Pull {
-        name: Text,
         source: Text,
         max: u32,
     },
-    /// The controller pulls until it took a last reply.
+    /// It pulls until it took a last reply.
     Cycle {
-        name: Text,
         source: Text,
         max: u32,
     },
-    /// So often each of some controllers pulls a cycle from the one before it, the first from the last; then they are compared.
+    /// So often it and each of the others pulls a cycle from the one before it, the first from the last; then they are compared.
     Ring {
-        name: Text,
         others: Names,
         rounds: u32,
         max: u32,
     },
-    /// A client has an object of an image come again, under a new birth.
-    Revive {
-        name: Text,
-        guid: Guid,
-        image: Text,
-        parent: Guid,
-        text: Text,
-    },
-    /// The image of the controller is bound to a name.
-    Backup {
-        name: Text,
-        bound: Text,
-    },
-    /// An image is adopted as the controller, under a fresh invocation identifier.
-    Restore {
-        name: Text,
-        image: Text,
-        inv: Guid,
-    },
-    /// An image is adopted as a new controller.
-    Install {
-        name: Text,
-        dsa: Guid,
-        image: Text,
-        inv: Guid,
-    },
-    /// The bytes of the controller's disk are bound to a name.
-    Snapshot {
-        name: Text,
-        bound: Text,
-    },
-    /// A snapshot is put back as the controller's disk.
-    Rollback {
-        name: Text,
-        snapshot: Text,
-    },
-    /// The disk stops within the device call behind `calls` further ones.
-    StopAfter {
-        name: Text,
-        calls: u32,
-        how: Crash,
-    },
-    /// The device call behind `calls` further ones fails.
-    Fail {
-        name: Text,
-        calls: u32,
-    },
+}
+
+/// What befalls a controller or its disk.
+#[derive(Clone, Copy)]
+pub enum Meeting {
     /// The controller stops, with everything on its disk.
-    Stop {
-        name: Text,
-    },
+    Stop,
     /// The controller is started from its disk.
-    Start {
-        name: Text,
-    },
-    /// A client asks the controller for a report.
-    Report {
-        name: Text,
-        what: Report,
-    },
+    Start,
+    /// The disk stops within the device call behind `calls` further ones.
+    StopAfter { calls: u32, how: Crash },
+    /// The device call behind `calls` further ones fails.
+    Fail { calls: u32 },
 }

@@ -26,7 +26,7 @@ pub use adr_values::{
 pub use answer::Answer;
 pub use call::Call;
 pub use directory::{Directory, Entry, EntryLinks, EntryValues, Guids};
-pub use event::Event;
+pub use event::{Coming, Event, Exchange, Made, Meeting, Use};
 pub use meta::{Life, MetaLine, MetaLines};
 pub use names::Names;
 pub use outcome::{Field, Fields, Label, Outcome, Plainly};

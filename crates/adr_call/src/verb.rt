@@ -1,9 +1,9 @@
 //! The words that lines begin with, and that answers repeat.
 
 ghost use Rattle.std.specs.Prelude.{◌≡◌};
-ghost use Rattle.adr_call.specs.Verbs.{verb_of, verb_of_call, verb_of_report, verb_of_write, word_of};
+ghost use Rattle.adr_call.specs.Verbs.{verb_of, verb_of_call, verb_of_coming, verb_of_exchange, verb_of_made, verb_of_meeting, verb_of_report, verb_of_use, verb_of_write, word_of};
 
-use crate::event::Event;
+use crate::event::{Coming, Event, Exchange, Made, Meeting, Use};
 use crate::{Call, Report, Write};
 
 /// What a line begins with.
@@ -118,31 +118,76 @@ fn verb_of_report(what: Report) -> Verb
     }
 }
 
+/// The verb of the line by which a controller comes to be, or comes back.
+fn verb_of_coming(how: &Coming) -> Verb
+    ensures { result ≡ verb_of_coming how.now }
+{
+    match how {
+        Coming::Fresh { .. } => Verb::Controller,
+        Coming::Installed { .. } => Verb::Install,
+        Coming::Restored { .. } => Verb::Restore,
+    }
+}
+
+/// The verb of the line that uses what is bound to a name.
+fn verb_of_use(what: &Use) -> Verb
+    ensures { result ≡ verb_of_use what.now }
+{
+    match what {
+        Use::Deliver => Verb::Deliver,
+        Use::Revive { .. } => Verb::Revive,
+        Use::Rollback => Verb::Rollback,
+    }
+}
+
+/// The verb of the line that binds what is made to a name.
+fn verb_of_made(what: &Made) -> Verb
+    ensures { result ≡ verb_of_made what.now }
+{
+    match what {
+        Made::Ask { .. } => Verb::Ask,
+        Made::Serve { .. } => Verb::Serve,
+        Made::Backup => Verb::Backup,
+        Made::Snapshot => Verb::Snapshot,
+    }
+}
+
+/// The verb of the line by which controllers pull.
+fn verb_of_exchange(what: &Exchange) -> Verb
+    ensures { result ≡ verb_of_exchange what.now }
+{
+    match what {
+        Exchange::Pull { .. } => Verb::Pull,
+        Exchange::Cycle { .. } => Verb::Cycle,
+        Exchange::Ring { .. } => Verb::Ring,
+    }
+}
+
+/// The verb of the line that says what befalls a controller.
+fn verb_of_meeting(what: Meeting) -> Verb
+    ensures { result ≡ verb_of_meeting what }
+{
+    match what {
+        Meeting::Stop | Meeting::StopAfter { .. } => Verb::Stop,
+        Meeting::Start => Verb::Start,
+        Meeting::Fail { .. } => Verb::Fail,
+    }
+}
+
 impl Event {
     /// The verb of the line that says the event.
     pub fn verb(&self) -> Verb
         ensures { result ≡ verb_of self.now }
     {
         match self {
-            Event::Controller { .. } => Verb::Controller,
             Event::Time { .. } => Verb::Time,
+            Event::Comes { how, .. } => verb_of_coming(how),
             Event::Calls { what, .. } => what.verb(),
-            Event::Ask { .. } => Verb::Ask,
-            Event::Serve { .. } => Verb::Serve,
-            Event::Deliver { .. } => Verb::Deliver,
-            Event::Pull { .. } => Verb::Pull,
-            Event::Cycle { .. } => Verb::Cycle,
-            Event::Ring { .. } => Verb::Ring,
-            Event::Revive { .. } => Verb::Revive,
-            Event::Backup { .. } => Verb::Backup,
-            Event::Restore { .. } => Verb::Restore,
-            Event::Install { .. } => Verb::Install,
-            Event::Snapshot { .. } => Verb::Snapshot,
-            Event::Rollback { .. } => Verb::Rollback,
-            Event::StopAfter { .. } | Event::Stop { .. } => Verb::Stop,
-            Event::Fail { .. } => Verb::Fail,
-            Event::Start { .. } => Verb::Start,
-            Event::Report { what, .. } => verb_of_report(*what),
+            Event::Uses { what, .. } => verb_of_use(what),
+            Event::Binds { what, .. } => verb_of_made(what),
+            Event::Asks { what, .. } => verb_of_report(*what),
+            Event::Goes { what, .. } => verb_of_exchange(what),
+            Event::Meets { what, .. } => verb_of_meeting(*what),
         }
     }
 }

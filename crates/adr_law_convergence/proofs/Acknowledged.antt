@@ -26,8 +26,8 @@ use Rattle.adr_disk.specs.declared.memory.Mishap.TheVariants.{Fails, Stops}
 use Rattle.adr_model.specs.Client.{done, written}
 use Rattle.adr_model.specs.Replica.{Pending, ToWrite, Up, Failed, Replica, moved, Went, Passed, Met, moves_of_commit, standing_after, outcome_after, commit_goes, device_after_commit}
 use Rattle.adr_model.specs.World.{Name, World, Gone, stays, bound_at, with_replica, committed, commit, after_call, does, asks, serves_request, delivers}
-use Rattle.adr_model.specs.Cycles.{reply_limit, pull_version}
-use Rattle.adr_model.specs.Step.{ClientWrite, client_write, write_of, step}
+use Rattle.adr_model.specs.Cycles.{pull_version}
+use Rattle.adr_model.specs.Step.{ClientWrite, client_write, write_of, goes}
 use Rattle.adr_model.specs.Convergence.{IsIssuedItem, IsAcknowledged, AcknowledgedIsIssued}
 use Rattle.adr_model.proofs.Members.{member_right, member_flat}
 use Rattle.adr_law_calls.proofs.Written.{items_are_own, items_take_usns}
@@ -37,7 +37,7 @@ use Rattle.adr_law_convergence.proofs.Refusals.{is_plain, IsPlain, write_refused
 use Rattle.adr_law_convergence.proofs.RefusalsPlain.{asked, line_case}
 use Rattle.adr_law_convergence.proofs.Reached.{plain_reached, within_case}
 use Rattle.adr_law_convergence.proofs.RefusalsSpared.{serves_so, takes_so}
-use Rattle.adr_law_convergence.proofs.Exchanges.{IsKeptByCalls, pull_so, pulls_so, ring_so}
+use Rattle.adr_law_convergence.proofs.Exchanges.{IsKeptByCalls, goes_so}
 
 abbrev IsTrueOf : World → Event → Gone → Type 0
 IsTrueOf w e g = (usn : ℕ) → g.1 ≡ outcomes.Usn usn → IsAcknowledged w e usn g.0
@@ -162,7 +162,5 @@ pub acknowledged_is_issued : AcknowledgedIsIssued
 acknowledged_is_issued w e sound may usn a m is = line_case (IsTrue w) w (λ f v b plain n h. absurd (plain_is_not b.outcome plain n h)) (λ f verb name what given wrote_it. wrote_by_name w f name what given wrote_it)
     (λ name request bind n h. absurd (served_no_usn w name (bound_at w.requests request) n h))
     (λ name reply n h. absurd (taken_no_usn w name (bound_at w.replies reply) n h))
-    (λ name source max. says_nothing w (events.Pull name source max) (step w (events.Pull name source max)) (pull_so (λ v. Unit {0}) (λ v q. Unit {0}) (λ v r. Unit {0}) IsNoUsn calls_no_usn name source max w tt).1)
-    (λ name source max. says_nothing w (events.Cycle name source max) (step w (events.Cycle name source max)) (pulls_so (λ v. Unit {0}) (λ v q. Unit {0}) (λ v r. Unit {0}) IsNoUsn calls_no_usn name source max reply_limit w tt).1)
-    (λ name others rounds max. says_nothing w (events.Ring name others rounds max) (step w (events.Ring name others rounds max)) (ring_so (λ v. Unit {0}) (λ v q. Unit {0}) (λ v r. Unit {0}) IsNoUsn calls_no_usn (λ n d f. plain_is_not (outcomes.Compared n d f) refl) name others rounds max w tt).1)
+    (λ name what. says_nothing w (events.Goes name what) (goes w name what) (goes_so (λ v. Unit {0}) (λ v q. Unit {0}) (λ v r. Unit {0}) IsNoUsn calls_no_usn (λ n d f. plain_is_not (outcomes.Compared n d f) refl) name what w tt).1)
     (λ i n. (sound.images i n).formed) e may a m usn is

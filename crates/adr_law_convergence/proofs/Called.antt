@@ -2,6 +2,7 @@
 use Rattle.std.proofs.Common.{◌≡◌, ◌≢◌, ℕ, true, List, [], ◌∷◌, Option, Some, None, Result, Ok, Err, refl, ap, length}
 use Rattle.adr_call.specs.declared.outcome.Outcome.{Outcome}
 use Rattle.adr_call.specs.declared.outcome.Outcome.TheVariants as outcomes
+use Rattle.adr_call.specs.declared.event.Meeting.{Meeting}
 use Rattle.adr_call.specs.declared.refusal.ServeRefusal.{ServeRefusal}
 use Rattle.adr_call.specs.declared.refusal.ServeRefusal.TheVariants as serves
 use Rattle.adr_call.specs.declared.refusal.TakeRefusal.{TakeRefusal}
@@ -17,9 +18,10 @@ use Rattle.adr_model.specs.Collect.{backup, quarantine}
 use Rattle.adr_model.specs.Refused.{serve_refused, take_refused}
 use Rattle.adr_disk.specs.declared.memory.Plan.{Plan}
 use Rattle.adr_model.specs.Replica.{Call, Pending, change_in, change_of, ToTake, ToQuarantine, Standing, Up, Down, Failed, Replica, Move, Settle, moves_of_commit, moves_of_start, standing_after, Device, commit_goes, start_goes, device_after_commit, device_after_start, device_settled}
-use Rattle.adr_model.specs.World.{Name, World, Gone, Sent, stays, nothing, replica_at, of_made, of_controller, committed, commit, quarantines, after_call, does, noted, asks, after_serve, served, serves_request, after_take, delivered, delivers, backed_up, with_plan, after_moves, stops, starts}
+use Rattle.adr_model.specs.World.{Name, World, Gone, Sent, stays, nothing, replica_at, of_made, of_controller, committed, commit, quarantines, after_call, does, noted, asks, after_serve, served, serves_request, after_take, delivered, delivers, backed_up, after_moves}
+use Rattle.adr_model.specs.Step.{meets}
 use Rattle.adr_model.proofs.Calling.{done_changes}
-use Rattle.adr_law_convergence.proofs.Reached.{made_case, up_case, reached_case, fits_case}
+use Rattle.adr_law_convergence.proofs.Reached.{made_case, up_case, reached_case, fits_case, meets_case}
 
 -- what calls of controllers keep of a world: such a call that isn't refused is committed where the log has room for its change
 pub record IsKeptBehind (Q : World → Type 0) (May : Call → Type 0) (w : World) : Type 0 where
@@ -55,11 +57,6 @@ module _ (Q : World → Type 0) (May : Call → Type 0) (w : World) (keeps : IsK
   Sent_so t = Q t.0
 
   module _ (r : Replica) (there : Member r w.replicas) where
-    started : (standing : Standing) → r.standing ≡ standing → Behind (starts w r standing)
-    started Up is = keeps.same
-    started Down is = keeps.starts r there (λ up. absurd (cc))
-    started Failed is = keeps.starts r there (λ up. absurd (cc))
-
     module _ (up : r.standing ≡ Up) where
       commits : (p : Pending) (outcome : Outcome) → May p.call → change_of r.safe p.call ≡ Some p.change → Behind (commit w r p outcome)
       commits p outcome may made = fits_case Behind w (change_fits r.device.safe_log r.safe.store p.change) (committed w r p outcome) keeps.same (λ fits. keeps.commits r there up p may made fits)
@@ -109,14 +106,8 @@ module _ (Q : World → Type 0) (May : Call → Type 0) (w : World) (keeps : IsK
       by None = keeps.same
       by (Some image) = keeps.same
 
-  pub plans_so : (name : Name) (plan : Plan) → Behind (of_made (stays w) (replica_at w name) (λ r. with_plan w r plan))
-  plans_so name plan = made_case Behind w name (stays w) (λ x. keeps.same) (λ r. with_plan w r plan) (λ r called. keeps.plans r called.there plan)
-
-  pub stops_so : (name : Name) → Behind (of_made (stays w) (replica_at w name) (λ r. stops w r))
-  stops_so name = made_case Behind w name (stays w) (λ x. keeps.same) (λ r. stops w r) (λ r called. keeps.stops r called.there)
-
-  pub starts_so : (name : Name) → Behind (of_made (stays w) (replica_at w name) (λ r. starts w r r.standing))
-  starts_so name = made_case Behind w name (stays w) (λ x. keeps.same) (λ r. starts w r r.standing) (λ r called. started r called.there r.standing refl)
+  pub meets_so : (name : Name) (what : Meeting) → Behind (of_made (stays w) (replica_at w name) (λ r. meets w r what))
+  meets_so name = meets_case Behind w name (λ o plain. keeps.same) (λ r is. keeps.stops r is.there) (λ r is. keeps.starts r is.there) (λ r is. keeps.plans r is.there)
 
   pub reports_so : (name : Name) (what : Replica → Outcome) → Behind (of_controller w name (stays w) (λ r. (w, what r)))
   reports_so name what = reached_case Behind w name (stays w) (λ x. keeps.same) (λ r. (w, what r)) (λ r called up. keeps.same)

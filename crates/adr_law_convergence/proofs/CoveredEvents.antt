@@ -1,5 +1,5 @@
 -- What was collected stays covered by every line that may happen and keeps it so.
-use Rattle.std.proofs.Common.{◌≡◌, ℕ, [], ◌∷◌, true, Some, sym, subst, List, Option, None}
+use Rattle.std.proofs.Common.{◌≡◌, ℕ, true, Some, sym, subst}
 use Rattle.adr_values.specs.Vector.{at_most}
 use Rattle.adr_call.specs.declared.outcome.Outcome.{Outcome}
 use Rattle.adr_call.specs.declared.outcome.Outcome.TheVariants as outcomes
@@ -7,18 +7,13 @@ use Rattle.adr_call.specs.declared.event.Event.{Event}
 use Rattle.adr_call.specs.declared.event.Event.TheVariants as events
 use Rattle.adr_model.specs.Store.{Store}
 use Rattle.adr_model.specs.Serve.{Request, Reply}
-use Rattle.adr_model.specs.Write.{Revive}
-use Rattle.adr_model.specs.Replica.{ToWrite}
-use Rattle.adr_disk.specs.declared.memory.Mishap.TheVariants.{Fails, Stops}
-use Rattle.adr_model.specs.World.{Name, World, Snapshot, Sent, nothing, bound_at, of_image, does, asks, serves_request, delivers, reported}
-use Rattle.adr_model.specs.Cycles.{pulls, reply_limit, pull_version}
-use Rattle.adr_model.specs.Step.{gives, step}
+use Rattle.adr_model.specs.World.{Name, World, asks, serves_request, delivers, reported}
+use Rattle.adr_model.specs.Cycles.{pulls, pull_version}
+use Rattle.adr_model.specs.Step.{step}
 use Rattle.adr_model.specs.Convergence.{MayHappen, IsStoreOf, IsPurgedCovered, KeepsCovered, StaysCovered}
-use Rattle.adr_law_convergence.proofs.Reached.{made_case}
-use Rattle.adr_law_convergence.proofs.Exchanges.{IsKeptByCalls, pull_so, pulls_so, ring_so, way_case}
+use Rattle.adr_law_convergence.proofs.Exchanges.{IsKeptByCalls, pulls_so, goes_so, way_case}
 use Rattle.adr_law_convergence.proofs.Covered.{grown_covers, purged_covered}
-use Rattle.adr_law_convergence.proofs.CoveredSteps.{asked, put_back_covered, given_more, writes_covered, serves_covered, delivers_covered, asked_covered, plans_covered, stops_covered, starts_covered, restores_covered, installs_covered, reports_covered, comes_covered, binds_request, binds_image}
-use Rattle.adr_model.specs.Update.{Identifier}
+use Rattle.adr_law_convergence.proofs.CoveredSteps.{asked, serves_covered, delivers_covered, asked_covered, meets_covered, reports_covered, comes_covered, makes_covered, uses_covered}
 
 -- ---- pulls
 
@@ -45,37 +40,15 @@ pulls_covered w covered dest source max n = (pulls_so IsPurgedCovered CoversPurg
 
 -- ---- lines
 
--- a revival, whether or not its image was made
-revived_covered : (w : World) → IsPurgedCovered w → (name : Name) (guid : Identifier) (image : Name) (parent : Identifier) (text : List ℕ) → IsPurgedCovered (step w (events.Revive name guid image parent text)).0
-revived_covered w covered name guid image parent text = by (bound_at w.images image)
-  where
-    by : (o : Option Store) → IsPurgedCovered (of_image w o (λ i. does w name (ToWrite (Revive i guid parent text) w.time))).0
-    by None = covered
-    by (Some i) = writes_covered w covered name (Revive i guid parent text)
-
 event_covered : (w : World) (covered : IsPurgedCovered w) (e : Event) → MayHappen w e → KeepsCovered w e → (step w e).0.clean ≡ true → IsPurgedCovered (step w e).0
-event_covered w covered (events.Controller name dsa inv) may keeps clean = comes_covered w covered name dsa inv keeps
 event_covered w covered (events.Time now) may keeps clean = record { stores = covered.stores; requests = covered.requests }
+event_covered w covered (events.Comes name inv how) may keeps clean = comes_covered w covered name inv how keeps
 event_covered w covered (events.Calls name what) may keeps clean = asked_covered w covered name what keeps
-event_covered w covered (events.Ask name partner max version bind) may keeps clean = binds_request w covered name partner bind max version
-event_covered w covered (events.Serve name request bind) may keeps clean =
-    let c = serves_covered w covered name (bound_at w.requests request) in record { stores = c.stores; requests = c.requests }
-event_covered w covered (events.Deliver name reply) may keeps clean = delivers_covered w covered name (bound_at w.replies reply)
-event_covered w covered (events.Pull name source max) may keeps clean = (pull_so IsPurgedCovered CoversPurged (λ v r. Unit {0}) (λ o. Unit {0}) only_worlds name source max w covered).0
-event_covered w covered (events.Cycle name source max) may keeps clean = pulls_covered w covered name source max reply_limit
-event_covered w covered (events.Ring name others rounds max) may keeps clean = (ring_so IsPurgedCovered CoversPurged (λ v r. Unit {0}) (λ o. Unit {0}) only_worlds (λ n d e. tt) name others rounds max w covered).0
-event_covered w covered (events.Revive name guid image parent text) may keeps clean = revived_covered w covered name guid image parent text
-event_covered w covered (events.Backup name bind) may keeps clean = binds_image w covered name bind
-event_covered w covered (events.Restore name image inv) may keeps clean = restores_covered (gives w [] (inv ∷ [])) (given_more w covered [] (inv ∷ [])) name image inv
-event_covered w covered (events.Install name dsa image inv) may keeps clean = installs_covered (gives w (dsa ∷ []) (inv ∷ [])) (given_more w covered (dsa ∷ []) (inv ∷ [])) name image dsa inv
-event_covered w covered (events.Snapshot name bind) may keeps clean =
-    let c = made_case (λ (t : Sent Snapshot). IsPurgedCovered t.0) w name (nothing w) (λ x. covered) (λ r. (w, outcomes.Ok, Some (record { state = r.read; log = r.device.read_log }))) (λ r is. covered) in record { stores = c.stores; requests = c.requests }
-event_covered w covered (events.Rollback name snapshot) may keeps clean = put_back_covered w covered name (bound_at w.snapshots snapshot) clean
-event_covered w covered (events.StopAfter name calls how) may keeps clean = plans_covered w covered name (record { calls = calls; mishap = Stops how })
-event_covered w covered (events.Fail name calls) may keeps clean = plans_covered w covered name (record { calls = calls; mishap = Fails })
-event_covered w covered (events.Stop name) may keeps clean = stops_covered w covered name
-event_covered w covered (events.Start name) may keeps clean = starts_covered w covered name
-event_covered w covered (events.Report name what) may keeps clean = reports_covered w covered name (λ r. reported w r.safe what)
+event_covered w covered (events.Uses name what bind) may keeps clean = uses_covered w covered name bind what clean
+event_covered w covered (events.Binds name what bind) may keeps clean = makes_covered w covered name bind what
+event_covered w covered (events.Asks name what) may keeps clean = reports_covered w covered name (λ r. reported w r.safe what)
+event_covered w covered (events.Goes name what) may keeps clean = (goes_so IsPurgedCovered CoversPurged (λ v r. Unit {0}) (λ o. Unit {0}) only_worlds (λ n d e. tt) name what w covered).0
+event_covered w covered (events.Meets name what) may keeps clean = meets_covered w covered name what
 
 -- what was collected is still covered
 pub stays_covered : StaysCovered

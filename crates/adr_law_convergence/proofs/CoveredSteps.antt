@@ -3,6 +3,13 @@ use Rattle.std.proofs.Common.{◌≡◌, ◌⊎◌, inl, inr, ℕ, List, [], ◌
 use Rattle.adr_call.specs.declared.outcome.Outcome.{Outcome}
 use Rattle.adr_call.specs.declared.outcome.Outcome.TheVariants as outcomes
 use Rattle.adr_call.specs.declared.event.Event.TheVariants as events
+use Rattle.adr_call.specs.declared.event.Coming.{Coming}
+use Rattle.adr_call.specs.declared.event.Coming.TheVariants as comings
+use Rattle.adr_call.specs.declared.event.Use.{Use}
+use Rattle.adr_call.specs.declared.event.Use.TheVariants as used
+use Rattle.adr_call.specs.declared.event.Made.{Made}
+use Rattle.adr_call.specs.declared.event.Made.TheVariants as mades
+use Rattle.adr_call.specs.declared.event.Meeting.{Meeting}
 use Rattle.adr_call.specs.declared.call.Call.{Call as Asked}
 use Rattle.adr_call.specs.declared.call.Call.TheVariants as calls
 use Rattle.adr_call.specs.declared.refusal.ServeRefusal.{ServeRefusal}
@@ -16,15 +23,14 @@ use Rattle.adr_model.specs.Store.{Store, State, empty_state}
 use Rattle.adr_model.specs.Change.{Change, after}
 use Rattle.adr_model.specs.Serve.{Request, Reply, is_quarantined, ask, serve}
 use Rattle.adr_model.specs.Client.{Done, call_meant, done}
-use Rattle.adr_model.specs.Write.{Write, items_written, own_change, write, write_meant, write_refusal}
+use Rattle.adr_model.specs.Write.{Write, Revive, items_written, own_change, write, write_meant, write_refusal}
 use Rattle.adr_model.specs.Take.{take_items, taken_change, take_refusal, take}
 use Rattle.adr_model.specs.Collect.{collection, deaths_to_collect, collect_refusal, collect, backup, adopt, quarantine}
 use Rattle.adr_model.specs.Lengths.{new_log, area_fits, change_fits}
 use Rattle.adr_model.specs.Refused.{serve_refused, take_refused, quarantined}
-use Rattle.adr_disk.specs.declared.memory.Plan.{Plan}
 use Rattle.adr_model.specs.Replica.{Call, Pending, ToWrite, ToTake, ToCollect, ToUpgrade, ToQuarantine, Standing, Up, Down, Failed, Replica, on_new_disk, Book, begun, Settle, moved, moves_of_commit, moves_of_start, standing_after, Device, commit_goes, start_goes, device_after_commit, device_after_start, device_settled}
-use Rattle.adr_model.specs.World.{Name, World, Snapshot, Gone, Sent, stays, nothing, bound, bound_at, replica_at, with_replica, of_made, of_controller, committed, commit, quarantines, after_call, does, asks, after_serve, served, serves_request, after_take, delivered, delivers, backed_up, adopts, of_image, put_back, with_plan, stops, starts, shown}
-use Rattle.adr_model.specs.Step.{gives, step}
+use Rattle.adr_model.specs.World.{Name, World, Snapshot, Gone, Sent, stays, nothing, bound, bound_at, replica_at, with_replica, of_made, of_controller, committed, commit, quarantines, after_call, does, asks, after_serve, served, serves_request, after_take, delivered, delivers, backed_up, adopts, put_back, shown}
+use Rattle.adr_model.specs.Step.{gives, comes, uses, made_bound, makes, meets}
 use Rattle.adr_model.specs.Convergence.{IsStoreOf, IsPurgedCovered, KeepsCovered}
 use Rattle.adr_model.proofs.Members.{member_of_either}
 use Rattle.adr_law_knowledge.proofs.Refusing.{answered}
@@ -32,7 +38,7 @@ use Rattle.adr_law_calls.proofs.Woken.{adopted_is_woken}
 use Rattle.adr_law_convergence.proofs.Found.{bound_member}
 use Rattle.adr_law_convergence.proofs.Calls.{in_change}
 use Rattle.adr_model.proofs.Calling.{done_changes}
-use Rattle.adr_law_convergence.proofs.Reached.{IsCalled, made_case, up_case, reached_case, within_case}
+use Rattle.adr_law_convergence.proofs.Reached.{IsCalled, made_case, up_case, reached_case, within_case, image_case, installs_case, restores_case, meets_case}
 use Rattle.adr_law_convergence.proofs.Binding.{MakesHere, made_none, only_made}
 use Rattle.adr_law_convergence.proofs.Covered.{IsGrown, IsCovered, MayCome, nothing_collected, nothing_covered, deaths_covered, raised_grows, as_it_was, purged_covered, comes_itself, changed_comes, both_come, placed, joining, requested, imaged}
 use Rattle.adr_law_convergence.proofs.Moves.{settling, starting, committing}
@@ -94,11 +100,6 @@ module _ (w : World) (covered : IsPurgedCovered w) where
         subst (λ (d : Change). IsCovered w d.purged)
         (answered (collect_refusal r.safe (collection r.safe (deaths_to_collect r.safe now lifetime))) (collection r.safe (deaths_to_collect r.safe now lifetime)) c is).1 (purged c is)
 
-    started_from : (standing : Standing) → IsPurgedCovered (starts w r standing).0
-    started_from Up = covered
-    started_from Down = moved_world (fold moved (w.book, r) (moves_of_start (start_goes r))) (standing_after r.standing (start_goes r)) (device_after_start r) (starting (λ (s : State). MayCome w s.store) w.book r (both_come w covered r there) (start_goes r))
-    started_from Failed = moved_world (fold moved (w.book, r) (moves_of_start (start_goes r))) (standing_after r.standing (start_goes r)) (device_after_start r) (starting (λ (s : State). MayCome w s.store) w.book r (both_come w covered r there) (start_goes r))
-
     imaged_from : (b : Bool) → MakesHere w (MayCome w) (backed_up w (if b then None else Some r.safe.store))
     imaged_from true = made_none w (MayCome w) quarantined
     imaged_from false = (refl, only_made (MayCome w) r.safe.store (comes_itself w covered r.safe.store (inl (r, there, inl refl))))
@@ -119,12 +120,8 @@ module _ (w : World) (covered : IsPurgedCovered w) where
   installed name dsa inv image of (Ok s) e = let new = woken_comes image dsa inv s of e in
       within_case OfWorld w (area_fits (new_log s) s.store) (record w { book = begun w.book s; replicas = w.replicas ++ on_new_disk name s ∷ [] }, outcomes.Ok) covered (joining w covered (begun w.book s) (on_new_disk name s) (new, new))
 
-  of_bound : (image : Name) (act : Store → Gone) → ((i : Store) → IsStoreOf w i → IsPurgedCovered (act i).0) → IsPurgedCovered (of_image w (bound_at w.images image) act).0
-  of_bound image act acts = by (bound_at w.images image) refl
-    where
-      by : (o : Option Store) → bound_at w.images image ≡ o → IsPurgedCovered (of_image w o act).0
-      by None is = covered
-      by (Some i) is = acts i (bound_member (IsStoreOf w) w.images image i (λ x m. inr (x, m, refl)) is)
+  is_image : (name : Name) (image : Store) → bound_at w.images name ≡ Some image → IsStoreOf w image
+  is_image name image = bound_member (IsStoreOf w) w.images name image (λ x m. inr (x, m, refl))
 
   pub asked : (name partner : Name) (max version : ℕ) → MakesHere w (λ (q : Request). IsGrown w q.vector) (asks w name partner max version)
   asked name partner max version =
@@ -134,7 +131,7 @@ module _ (w : World) (covered : IsPurgedCovered w) where
       none : (x : Outcome) → MakesHere w (λ (q : Request). IsGrown w q.vector) (nothing w x)
       none x = made_none w (λ (q : Request). IsGrown w q.vector) x
 
-  pub given_more : (dsas invs : List Identifier) → IsPurgedCovered (gives w dsas invs)
+  given_more : (dsas invs : List Identifier) → IsPurgedCovered (gives w dsas invs)
   given_more dsas invs = record { stores = covered.stores; requests = covered.requests }
 
   -- calls by name
@@ -160,28 +157,18 @@ module _ (w : World) (covered : IsPurgedCovered w) where
   backups_covered : (name : Name) → MakesHere w (MayCome w) (of_controller w name (nothing w) (λ r. backed_up w (backup r.safe)))
   backups_covered name = reached_case (MakesHere w (MayCome w)) w name (nothing w) (made_none w (MayCome w)) (λ r. backed_up w (backup r.safe)) (λ r is up. imaged_from r is.there (is_quarantined r.safe.mode))
 
-  pub plans_covered : (name : Name) (plan : Plan) → IsPurgedCovered (of_made (stays w) (replica_at w name) (λ r. with_plan w r plan)).0
-  plans_covered name plan = made_case OfWorld w name (stays w) (λ x. covered) (λ r. with_plan w r plan) (λ r is. placed w covered w.book (record r { device = record r.device { plan = Some plan } }) (both_come w covered r is.there))
-
-  pub stops_covered : (name : Name) → IsPurgedCovered (of_made (stays w) (replica_at w name) (λ r. stops w r)).0
-  stops_covered name = made_case OfWorld w name (stays w) (λ x. covered) (λ r. stops w r) (λ r is. moved_world r is.there (moved (w.book, r) Settle) Down (device_settled r) (settling (λ (s : State). MayCome w s.store) w.book r (both_come w covered r is.there)))
-
-  pub starts_covered : (name : Name) → IsPurgedCovered (of_made (stays w) (replica_at w name) (λ r. starts w r r.standing)).0
-  starts_covered name = made_case OfWorld w name (stays w) (λ x. covered) (λ r. starts w r r.standing) (λ r is. started_from r is.there r.standing)
-
-  pub restores_covered : (name image : Name) (inv : Identifier) → IsPurgedCovered (of_made (stays w) (replica_at w name) (λ r. of_image w (bound_at w.images image) (λ i. adopts w (with_replica w.replicas) name (adopt i r.safe.dsa inv)))).0
-  restores_covered name image inv = made_case OfWorld w name (stays w) (λ x. covered) (λ r. of_image w (bound_at w.images image) (λ i. adopts w (with_replica w.replicas) name (adopt i r.safe.dsa inv)))
-      (λ r is. of_bound image (λ i. adopts w (with_replica w.replicas) name (adopt i r.safe.dsa inv)) (λ i of. restored name r.safe.dsa inv i of (adopt i r.safe.dsa inv) refl))
-
-  pub installs_covered : (name image : Name) (dsa inv : Identifier) → IsPurgedCovered (of_image w (bound_at w.images image) (λ i. adopts w (λ r. w.replicas ++ r ∷ []) name (adopt i dsa inv))).0
-  installs_covered name image dsa inv = of_bound image (λ i. adopts w (λ r. w.replicas ++ r ∷ []) name (adopt i dsa inv)) (λ i of. installed name dsa inv i of (adopt i dsa inv) refl)
+  pub meets_covered : (name : Name) (what : Meeting) → IsPurgedCovered (of_made (stays w) (replica_at w name) (λ r. meets w r what)).0
+  meets_covered name = meets_case OfWorld w name (λ o plain. covered)
+      (λ r is. moved_world r is.there (moved (w.book, r) Settle) Down (device_settled r) (settling (λ (s : State). MayCome w s.store) w.book r (both_come w covered r is.there)))
+      (λ r is not_up. moved_world r is.there (fold moved (w.book, r) (moves_of_start (start_goes r))) (standing_after r.standing (start_goes r)) (device_after_start r) (starting (λ (s : State). MayCome w s.store) w.book r (both_come w covered r is.there) (start_goes r)))
+      (λ r is plan. placed w covered w.book (record r { device = record r.device { plan = Some plan } }) (both_come w covered r is.there))
 
   pub reports_covered : (name : Name) (what : Replica → Outcome) → IsPurgedCovered (of_controller w name (stays w) (λ r. (w, what r))).0
   reports_covered name what = reached_case OfWorld w name (stays w) (λ x. covered) (λ r. (w, what r)) (λ r is up. covered)
 
   -- a new controller, while nothing was collected
-  pub comes_covered : (name : Name) (dsa inv : Identifier) → ((s : Store) → IsStoreOf w s → s.purged ≡ []) → IsPurgedCovered (step w (events.Controller name dsa inv)).0
-  comes_covered name dsa inv none = nothing_collected (step w (events.Controller name dsa inv)).0 each
+  begins_covered : (name : Name) (dsa inv : Identifier) → ((s : Store) → IsStoreOf w s → s.purged ≡ []) → IsPurgedCovered (comes w name inv (comings.Fresh dsa)).0
+  begins_covered name dsa inv none = nothing_collected (comes w name inv (comings.Fresh dsa)).0 each
     where
       of : (q : Replica) → Member q (w.replicas ++ on_new_disk name (empty_state dsa inv) ∷ []) → (q.safe.store.purged ≡ []) × (q.read.store.purged ≡ [])
       of q m = by (member_of_either w.replicas (on_new_disk name (empty_state dsa inv) ∷ []) q m)
@@ -191,24 +178,44 @@ module _ (w : World) (covered : IsPurgedCovered w) where
           by (inr (inl e)) = (ap (λ (p : Replica). p.safe.store.purged) e, ap (λ (p : Replica). p.read.store.purged) e)
           by (inr (inr n)) = absurd n
 
-      each : (s : Store) → IsStoreOf (step w (events.Controller name dsa inv)).0 s → s.purged ≡ []
+      each : (s : Store) → IsStoreOf (comes w name inv (comings.Fresh dsa)).0 s → s.purged ≡ []
       each s (inl (q, m, inl e)) = ap (λ (t : Store). t.purged) e ∙ (of q m).0
       each s (inl (q, m, inr e)) = ap (λ (t : Store). t.purged) e ∙ (of q m).1
       each s (inr (i, m, e)) = none s (inr (i, m, e))
 
-  -- with what is bound
-  pub binds_request : (name partner bind : Name) (max version : ℕ) → IsPurgedCovered (step w (events.Ask name partner max version bind)).0
-  binds_request name partner bind max version = subst (λ (v : World). IsPurgedCovered (record v { requests = bound v.requests bind (asks w name partner max version).2 })) (sym (asked name partner max version).0)
-      (requested w covered bind (asks w name partner max version).2 (asked name partner max version).1)
+  -- what is made is bound in the world in which it was made
+  bound_covered : {A : Type 0} (P : A → Type 0) (t : Sent A) (binds : World → Option A → World) → MakesHere w P t → (((x : A) → t.2 ≡ Some x → P x) → IsPurgedCovered (binds w t.2)) → OfWorld (made_bound t binds)
+  bound_covered P t binds m binding = subst (λ (v : World). IsPurgedCovered (binds v t.2)) (sym m.0) (binding m.1)
 
-  pub binds_image : (name bind : Name) → IsPurgedCovered (step w (events.Backup name bind)).0
-  binds_image name bind = subst (λ (v : World). IsPurgedCovered (record v { images = bound v.images bind (of_controller w name (nothing w) (λ r. backed_up w (backup r.safe))).2 })) (sym (backups_covered name).0)
-      (imaged w covered bind (of_controller w name (nothing w) (λ r. backed_up w (backup r.safe))).2 (backups_covered name).1)
+  pub makes_covered : (name bind : Name) (what : Made) → IsPurgedCovered (makes w name what bind).0
+  makes_covered name bind (mades.Ask partner max version) = bound_covered (λ (q : Request). IsGrown w q.vector) (asks w name partner max version) (λ v q. record v { requests = bound v.requests bind q }) (asked name partner max version)
+      (requested w covered bind (asks w name partner max version).2)
+  makes_covered name bind (mades.Serve request) = let c = serves_covered name (bound_at w.requests request) in record { stores = c.stores; requests = c.requests }
+  makes_covered name bind mades.Backup = bound_covered (MayCome w) (of_controller w name (nothing w) (λ r. backed_up w (backup r.safe))) (λ v i. record v { images = bound v.images bind i }) (backups_covered name)
+      (imaged w covered bind (of_controller w name (nothing w) (λ r. backed_up w (backup r.safe))).2)
+  makes_covered name bind mades.Snapshot =
+      let c = made_case (λ (t : Sent Snapshot). IsPurgedCovered t.0) w name (nothing w) (λ x. covered) (λ r. (w, outcomes.Ok, Some (record { state = r.read; log = r.device.read_log }))) (λ r is. covered) in record { stores = c.stores; requests = c.requests }
 
   -- a world into which a snapshot was put back isn't clean
-  pub put_back_covered : (name : Name) (o : Option Snapshot) → (of_made (stays w) (replica_at w name) (λ r. put_back w name o)).0.clean ≡ true → IsPurgedCovered (of_made (stays w) (replica_at w name) (λ r. put_back w name o)).0
+  put_back_covered : (name : Name) (o : Option Snapshot) → (of_made (stays w) (replica_at w name) (λ r. put_back w name o)).0.clean ≡ true → IsPurgedCovered (of_made (stays w) (replica_at w name) (λ r. put_back w name o)).0
   put_back_covered name o clean = made_case (λ (g : Gone). g.0.clean ≡ true → OfWorld g) w name (stays w) (λ x is. covered) (λ r. put_back w name o) (λ r called is. by o is) clean
     where
       by : (o : Option Snapshot) → (put_back w name o).0.clean ≡ true → OfWorld (put_back w name o)
       by None is = covered
       by (Some s) is = absurd (cc)
+
+  -- a revival, whether or not its image was made
+  revived_covered : (name bind : Name) (guid parent : Identifier) (text : List ℕ) → OfWorld (uses w name (used.Revive guid parent text) bind)
+  revived_covered name bind guid parent text = image_case OfWorld w (bound_at w.images bind) (λ i. does w name (ToWrite (Revive i guid parent text) w.time)) covered (λ i is. writes_covered name (Revive i guid parent text))
+
+  pub uses_covered : (name bind : Name) (what : Use) → (uses w name what bind).0.clean ≡ true → IsPurgedCovered (uses w name what bind).0
+  uses_covered name bind used.Deliver clean = delivers_covered name (bound_at w.replies bind)
+  uses_covered name bind (used.Revive guid parent text) clean = revived_covered name bind guid parent text
+  uses_covered name bind used.Rollback clean = put_back_covered name (bound_at w.snapshots bind) clean
+
+pub comes_covered : (w : World) → IsPurgedCovered w → (name : Name) (inv : Identifier) (how : Coming) → KeepsCovered w (events.Comes name inv how) → IsPurgedCovered (comes w name inv how).0
+comes_covered w covered name inv (comings.Fresh dsa) keeps = begins_covered w covered name dsa inv keeps
+comes_covered w covered name inv (comings.Installed dsa image) keeps = installs_case (λ (g : Gone). IsPurgedCovered g.0) w name inv image dsa (given_more w covered (dsa ∷ []) (inv ∷ []))
+    (λ i e. installed (gives w (dsa ∷ []) (inv ∷ [])) (given_more w covered (dsa ∷ []) (inv ∷ [])) name dsa inv i (is_image w covered image i e) (adopt i dsa inv) refl)
+comes_covered w covered name inv (comings.Restored image) keeps = restores_case (λ (g : Gone). IsPurgedCovered g.0) w name inv image (λ o plain. given_more w covered [] (inv ∷ []))
+    (λ r called i e. restored (gives w [] (inv ∷ [])) (given_more w covered [] (inv ∷ [])) name r.safe.dsa inv i (is_image w covered image i e) (adopt i r.safe.dsa inv) refl)

@@ -5,12 +5,14 @@ use Rattle.adr_call.specs.declared.outcome.Outcome.{Outcome}
 use Rattle.adr_call.specs.declared.outcome.Outcome.TheVariants as outcomes
 use Rattle.adr_call.specs.declared.event.Event.{Event}
 use Rattle.adr_call.specs.declared.event.Event.TheVariants as events
+use Rattle.adr_call.specs.declared.event.Exchange.{Exchange}
+use Rattle.adr_call.specs.declared.event.Exchange.TheVariants as exchanges
 use Rattle.adr_model.specs.Member.{Each}
 use Rattle.adr_model.specs.Serve.{Request, Reply}
 use Rattle.adr_model.specs.World.{Name, World, Sent, answer, asks, serves_request, delivers}
 use Rattle.adr_model.specs.Cycles.{Pulled, pull_served, pull_asked, pull, and_then, pulls, reply_limit, pull_version}
 use Rattle.adr_model.specs.Rings.{ring, times, rings}
-use Rattle.adr_model.specs.Step.{step}
+use Rattle.adr_model.specs.Step.{goes, step}
 use Rattle.adr_model.specs.Convergence.{IsOnTheWay}
 use Rattle.adr_model.proofs.Members.{member_of_either}
 use Rattle.adr_model.proofs.Ringing.{rings_so, amid_so}
@@ -55,10 +57,10 @@ module _ (I : World → Type 0) (Q : World → Request → Type 0) (R : World �
       (s.0, one_more (codes "ask") dest (asks w dest source max pull_version).1 (pull_asked dest source (asks w dest source max pull_version).0 (asks w dest source max pull_version).2).1 t.1.0 s.1)
 
   then_so : (p : Pulled) (go : World → World × List Answer) → I p.0 × All p.1 → ((v : World) → I v → I (go v).0 × All (go v).1) → I (and_then p go).0 × All (and_then p go).1
-  then_so p go is goes = by p.2
+  then_so p go is next = by p.2
     where
       by : (b : Bool) → I (and_then (p.0, p.1, b) go).0 × All (and_then (p.0, p.1, b) go).1
-      by true = let t = goes p.0 is.0 in (t.0, λ a m. ⊎_elim (λ l. is.1 a l) (λ r. t.1 a r) (member_of_either p.1 (go p.0).1 a m))
+      by true = let t = next p.0 is.0 in (t.0, λ a m. ⊎_elim (λ l. is.1 a l) (λ r. t.1 a r) (member_of_either p.1 (go p.0).1 a m))
       by false = is
 
   pub pulls_so : (n : ℕ) (w : World) → I w → I (pulls n w dest source max).0 × All (pulls n w dest source max).1
@@ -81,9 +83,16 @@ pub ring_so : (I : World → Type 0) (Q : World → Request → Type 0) (R : Wor
 ring_so I Q R P kept comparing name others rounds max w is =
     rings_so I (λ (a : Answer). P a.outcome) (λ v dest source most h. pulls_so I Q R P kept dest source most reply_limit v h) name others rounds max (λ v d e. comparing rounds d e) w is
 
+-- and of whatever controllers pull
+pub goes_so : (I : World → Type 0) (Q : World → Request → Type 0) (R : World → Reply → Type 0) (P : Outcome → Type 0) → IsKeptByCalls I Q R P → ((rounds : ℕ) (directories vectors : Bool) → P (outcomes.Compared rounds directories vectors))
+    → (name : Name) (what : Exchange) (w : World) → I w → I (goes w name what).0 × Each (λ (a : Answer). P a.outcome) (goes w name what).1
+goes_so I Q R P kept comparing name (exchanges.Pull source max) w is = pull_so I Q R P kept name source max w is
+goes_so I Q R P kept comparing name (exchanges.Cycle source max) w is = pulls_so I Q R P kept name source max reply_limit w is
+goes_so I Q R P kept comparing name (exchanges.Ring others rounds max) w is = ring_so I Q R P kept comparing name others rounds max w is
+
 -- what pulls keep, and holds behind a line, holds of each world on the way
 pub way_case : (I P : World → Type 0) (w : World) (e : Event) → I w → ((x : World) (name source : Name) (max n : ℕ) → I x → I (pulls n x name source max).0) → ((x : World) → I x → P x) → P (step w e).0
     → (v : World) → IsOnTheWay w e v → P v
-way_case I P w (events.Cycle name source max) is keeps weak steps v way = subst P (sym way.1) (weak (pulls way.0 w name source max).0 (keeps w name source max way.0 is))
-way_case I P w (events.Ring name others rounds max) is keeps weak steps v way = weak v (amid_so I keeps (times rounds (ring name others)) max w is v way)
+way_case I P w (events.Goes name (exchanges.Cycle source max)) is keeps weak steps v way = subst P (sym way.1) (weak (pulls way.0 w name source max).0 (keeps w name source max way.0 is))
+way_case I P w (events.Goes name (exchanges.Ring others rounds max)) is keeps weak steps v way = weak v (amid_so I keeps (times rounds (ring name others)) max w is v way)
 way_case I P w e is keeps weak steps v way = subst P (sym way) steps

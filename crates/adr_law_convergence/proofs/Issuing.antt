@@ -3,24 +3,30 @@ use Rattle.std.proofs.Common.{◌≡◌, ℕ, List, [], ◌∷◌, ◌++◌, Boo
 use Rattle.adr_call.specs.declared.outcome.Outcome.TheVariants as outcomes
 use Rattle.adr_call.specs.declared.event.Event.{Event}
 use Rattle.adr_call.specs.declared.event.Event.TheVariants as events
+use Rattle.adr_call.specs.declared.event.Coming.{Coming}
+use Rattle.adr_call.specs.declared.event.Coming.TheVariants as comings
+use Rattle.adr_call.specs.declared.event.Use.{Use}
+use Rattle.adr_call.specs.declared.event.Use.TheVariants as used
+use Rattle.adr_call.specs.declared.event.Made.{Made}
+use Rattle.adr_call.specs.declared.event.Made.TheVariants as mades
 use Rattle.adr_call.specs.declared.refusal.AdoptRefusal.{AdoptRefusal}
 use Rattle.adr_model.specs.Lengths.{new_log, area_fits}
 use Rattle.adr_model.specs.Member.{Member, Each}
-use Rattle.adr_model.specs.Store.{Store, State}
+use Rattle.adr_model.specs.Update.{Identifier}
+use Rattle.adr_model.specs.Store.{State}
 use Rattle.adr_model.specs.Client.{call_meant}
 use Rattle.adr_model.specs.Write.{Revive}
 use Rattle.adr_model.specs.Collect.{adopt}
-use Rattle.adr_disk.specs.declared.memory.Mishap.TheVariants.{Fails, Stops}
 use Rattle.adr_model.specs.Replica.{ToWrite, Pending, issued_by, Standing, Replica, on_new_disk, Book, begun, Move, Begin, Settle, Forget, moved, Device}
-use Rattle.adr_model.specs.World.{Name, World, Snapshot, Gone, Sent, stays, nothing, bound_at, with_replica, begins, adopts, does, of_image, put_back, after_moves, reported}
-use Rattle.adr_model.specs.Cycles.{pulls, reply_limit, pull_version}
-use Rattle.adr_model.specs.Step.{gives, step}
+use Rattle.adr_model.specs.World.{Name, World, Snapshot, Gone, Sent, stays, nothing, bound_at, with_replica, begins, adopts, does, put_back, after_moves, reported}
+use Rattle.adr_model.specs.Cycles.{pulls, pull_version}
+use Rattle.adr_model.specs.Step.{gives, comes, uses, makes, step}
 use Rattle.adr_model.specs.Convergence.{IssuedStays, StaysClean, StaysUnclean, puts_back}
 use Rattle.adr_model.proofs.Members.{member_left}
-use Rattle.adr_law_convergence.proofs.Reached.{made_case, within_case}
+use Rattle.adr_law_convergence.proofs.Reached.{made_case, within_case, image_case, installs_case, restores_case}
 use Rattle.adr_model.specs.World.{noted}
-use Rattle.adr_law_convergence.proofs.Called.{IsKeptBehind, AnyCall, by_moves, calls_so, asks_so, serves_so, delivers_so, backs_up_so, plans_so, stops_so, starts_so, reports_so}
-use Rattle.adr_law_convergence.proofs.Exchanges.{IsKeptByCalls, worlds_alone, pull_so, pulls_so, ring_so, way_case}
+use Rattle.adr_law_convergence.proofs.Called.{IsKeptBehind, AnyCall, by_moves, calls_so, asks_so, serves_so, delivers_so, backs_up_so, meets_so, reports_so}
+use Rattle.adr_law_convergence.proofs.Exchanges.{IsKeptByCalls, worlds_alone, pulls_so, goes_so, way_case}
 use Rattle.adr_model.specs.Serve.{Reply}
 
 -- all that was issued in the one world is so in the other, and what isn't clean stays so; what is clean too, where no database is put back
@@ -76,10 +82,6 @@ module _ (put : Bool) (w : World) where
   adopts_keep placed name (Err x) = same put w
   adopts_keep placed name (Ok s) = begins_keep placed name s
 
-  of_image_keeps : (o : Option Store) (act : Store → Gone) → ((i : Store) → Kept (act i)) → Kept (of_image w o act)
-  of_image_keeps None act acts = same put w
-  of_image_keeps (Some i) act acts = acts i
-
 put_back_keeps : (w : World) (name : Name) (o : Option Snapshot) → Kept true w (put_back w name o)
 put_back_keeps w name None = same true w
 put_back_keeps w name (Some s) = record { issued = λ u m. m; unclean = λ e. refl; alike = λ e. cc }
@@ -98,42 +100,42 @@ module _ (w : World) where
   here : IsKeptBehind (Keeps false w) AnyCall w
   here = keeping false w w (same false w)
 
-  pub step_keeps : (e : Event) → Keeps (puts_back e) w (step w e).0
-  step_keeps (events.Controller name dsa inv) = record { issued = λ u m. m; unclean = λ e. e; alike = λ e. refl }
-  step_keeps (events.Time now) = record { issued = λ u m. m; unclean = λ e. e; alike = λ e. refl }
-  step_keeps (events.Calls name what) = calls_so Q AnyCall w here name (call_meant what w.time) tt
-  step_keeps (events.Ask name partner max version bind) = let k = asks_so Q AnyCall w here name partner max version in record { issued = k.issued; unclean = k.unclean; alike = k.alike }
-  step_keeps (events.Serve name request bind) = let k = serves_so Q AnyCall w here name (bound_at w.requests request) tt in record { issued = k.issued; unclean = k.unclean; alike = k.alike }
-  step_keeps (events.Deliver name reply) = delivers_so Q AnyCall w here name (bound_at w.replies reply) tt (λ p e. tt)
-  step_keeps (events.Pull name source max) = (pull_so Q (λ v q. Unit {0}) (λ v r. Unit {0}) (λ o. Unit {0}) calls_keep name source max w (same false w)).0
-  step_keeps (events.Cycle name source max) = pulls_keep w name source max reply_limit (same false w)
-  step_keeps (events.Ring name others rounds max) = (ring_so Q (λ v q. Unit {0}) (λ v r. Unit {0}) (λ o. Unit {0}) calls_keep (λ n d e. tt) name others rounds max w (same false w)).0
-  step_keeps (events.Revive name guid image parent text) = by (bound_at w.images image)
-    where
-      by : (o : Option Store) → Keeps false w (of_image w o (λ i. does w name (ToWrite (Revive i guid parent text) w.time))).0
-      by None = same false w
-      by (Some i) = calls_so Q AnyCall w here name (ToWrite (Revive i guid parent text) w.time) tt
-  step_keeps (events.Backup name bind) = let k = backs_up_so Q AnyCall w here name in record { issued = k.issued; unclean = k.unclean; alike = k.alike }
-  step_keeps (events.Restore name image inv) =
-      made_case (Kept false w) (gives w [] (inv ∷ [])) name (stays (gives w [] (inv ∷ []))) (λ o. given) (λ r. of_image (gives w [] (inv ∷ [])) (bound_at w.images image) (λ i. adopts (gives w [] (inv ∷ [])) (with_replica w.replicas) name (adopt i r.safe.dsa inv)))
-      (λ r called. from_given (of_image_keeps false (gives w [] (inv ∷ [])) (bound_at w.images image) (λ i. adopts (gives w [] (inv ∷ [])) (with_replica w.replicas) name (adopt i r.safe.dsa inv)) (λ i. adopts_keep false (gives w [] (inv ∷ [])) (with_replica w.replicas) name (adopt i r.safe.dsa inv))))
-    where
-      given : Keeps false w (gives w [] (inv ∷ []))
-      given = record { issued = λ u m. m; unclean = λ e. e; alike = λ e. refl }
+  -- more is given, whatever the line is answered
+  given : (dsas invs : List Identifier) → Keeps false w (gives w dsas invs)
+  given dsas invs = record { issued = λ u m. m; unclean = λ e. e; alike = λ e. refl }
 
-      from_given : {v : World} → Keeps false (gives w [] (inv ∷ [])) v → Keeps false w v
-      from_given k = record { issued = k.issued; unclean = k.unclean; alike = k.alike }
-  step_keeps (events.Install name dsa image inv) =
-      let k = of_image_keeps false (gives w (dsa ∷ []) (inv ∷ [])) (bound_at w.images image) (λ i. adopts (gives w (dsa ∷ []) (inv ∷ [])) (λ r. w.replicas ++ r ∷ []) name (adopt i dsa inv)) (λ i. adopts_keep false (gives w (dsa ∷ []) (inv ∷ [])) (λ r. w.replicas ++ r ∷ []) name (adopt i dsa inv)) in
-      record { issued = k.issued; unclean = k.unclean; alike = k.alike }
-  step_keeps (events.Snapshot name bind) =
+  from_given : (dsas invs : List Identifier) → (v : World) → Keeps false (gives w dsas invs) v → Keeps false w v
+  from_given dsas invs v k = onward false w (gives w dsas invs) v (given dsas invs) k
+
+  comes_keep : (name : Name) (inv : Identifier) (how : Coming) → Keeps false w (comes w name inv how).0
+  comes_keep name inv (comings.Fresh dsa) = record { issued = λ u m. m; unclean = λ e. e; alike = λ e. refl }
+  comes_keep name inv (comings.Installed dsa image) = installs_case (Kept false w) w name inv image dsa (given (dsa ∷ []) (inv ∷ []))
+      (λ i e. from_given (dsa ∷ []) (inv ∷ []) _ (adopts_keep false (gives w (dsa ∷ []) (inv ∷ [])) (λ r. w.replicas ++ r ∷ []) name (adopt i dsa inv)))
+  comes_keep name inv (comings.Restored image) = restores_case (Kept false w) w name inv image (λ o plain. given [] (inv ∷ []))
+      (λ r called i e. from_given [] (inv ∷ []) _ (adopts_keep false (gives w [] (inv ∷ [])) (with_replica w.replicas) name (adopt i r.safe.dsa inv)))
+
+  uses_keep : (name bind : Name) (what : Use) → Keeps (puts_back (events.Uses name what bind)) w (uses w name what bind).0
+  uses_keep name bind used.Deliver = delivers_so Q AnyCall w here name (bound_at w.replies bind) tt (λ p e. tt)
+  uses_keep name bind (used.Revive guid parent text) = image_case (Kept false w) w (bound_at w.images bind) (λ i. does w name (ToWrite (Revive i guid parent text) w.time)) (same false w)
+      (λ i e. calls_so Q AnyCall w here name (ToWrite (Revive i guid parent text) w.time) tt)
+  uses_keep name bind used.Rollback = made_case (Kept true w) w name (stays w) (λ o. same true w) (λ r. put_back w name (bound_at w.snapshots bind)) (λ r called. put_back_keeps w name (bound_at w.snapshots bind))
+
+  makes_keep : (name bind : Name) (what : Made) → Keeps false w (makes w name what bind).0
+  makes_keep name bind (mades.Ask partner max version) = let k = asks_so Q AnyCall w here name partner max version in record { issued = k.issued; unclean = k.unclean; alike = k.alike }
+  makes_keep name bind (mades.Serve request) = let k = serves_so Q AnyCall w here name (bound_at w.requests request) tt in record { issued = k.issued; unclean = k.unclean; alike = k.alike }
+  makes_keep name bind mades.Backup = let k = backs_up_so Q AnyCall w here name in record { issued = k.issued; unclean = k.unclean; alike = k.alike }
+  makes_keep name bind mades.Snapshot =
       let k = made_case (KeptBy false w) w name (nothing w) (λ o. same false w) (λ r. (w, outcomes.Ok, Some (record { state = r.read; log = r.device.read_log }))) (λ r called. same false w) in record { issued = k.issued; unclean = k.unclean; alike = k.alike }
-  step_keeps (events.Rollback name snapshot) = made_case (Kept true w) w name (stays w) (λ o. same true w) (λ r. put_back w name (bound_at w.snapshots snapshot)) (λ r called. put_back_keeps w name (bound_at w.snapshots snapshot))
-  step_keeps (events.StopAfter name calls how) = plans_so Q AnyCall w here name (record { calls = calls; mishap = Stops how })
-  step_keeps (events.Fail name calls) = plans_so Q AnyCall w here name (record { calls = calls; mishap = Fails })
-  step_keeps (events.Stop name) = stops_so Q AnyCall w here name
-  step_keeps (events.Start name) = starts_so Q AnyCall w here name
-  step_keeps (events.Report name what) = reports_so Q AnyCall w here name (λ r. reported w r.safe what)
+
+  pub step_keeps : (e : Event) → Keeps (puts_back e) w (step w e).0
+  step_keeps (events.Time now) = record { issued = λ u m. m; unclean = λ e. e; alike = λ e. refl }
+  step_keeps (events.Comes name inv how) = comes_keep name inv how
+  step_keeps (events.Calls name what) = calls_so Q AnyCall w here name (call_meant what w.time) tt
+  step_keeps (events.Uses name what bind) = uses_keep name bind what
+  step_keeps (events.Binds name what bind) = makes_keep name bind what
+  step_keeps (events.Asks name what) = reports_so Q AnyCall w here name (λ r. reported w r.safe what)
+  step_keeps (events.Goes name what) = (goes_so Q (λ v q. Unit {0}) (λ v r. Unit {0}) (λ o. Unit {0}) calls_keep (λ n d e. tt) name what w (same false w)).0
+  step_keeps (events.Meets name what) = meets_so Q AnyCall w here name what
 
 pub issued_stays : IssuedStays
 issued_stays w e = (step_keeps w e).issued

@@ -2,6 +2,7 @@
 use Rattle.std.proofs.Common.{◌≡◌, List, [], ◌∷◌, Bool, true, false, refl}
 use Rattle.adr_call.specs.declared.event.Event.{Event}
 use Rattle.adr_call.specs.declared.event.Event.TheVariants as events
+use Rattle.adr_call.specs.declared.event.Exchange.TheVariants as exchanges
 use Rattle.adr_model.specs.World.{World, empty_world}
 use Rattle.adr_model.specs.Cycles.{reply_limit}
 use Rattle.adr_model.specs.Step.{step, after_lines}
@@ -36,8 +37,8 @@ stays_sound w e run may v way = record {
 
 -- what is behind a line is on its way
 pub behind_is_on_the_way : (w : World) (e : Event) → IsOnTheWay w e (step w e).0
-behind_is_on_the_way w (events.Cycle name source max) = (reply_limit, refl)
-behind_is_on_the_way w (events.Ring name others rounds max) = behind_is_amid name others rounds max w
+behind_is_on_the_way w (events.Goes name (exchanges.Cycle source max)) = (reply_limit, refl)
+behind_is_on_the_way w (events.Goes name (exchanges.Ring others rounds max)) = behind_is_amid name others rounds max w
 behind_is_on_the_way w e = refl
 
 runs : (es : List Event) (w : World) → IsWorldOfRun w → MayAllHappen w es → IsWorldOfRun (after_lines w es)

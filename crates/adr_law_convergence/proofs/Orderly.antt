@@ -3,6 +3,12 @@ use Rattle.std.proofs.Common.{◌≡◌, ◌≢◌, ◌⊎◌, inl, inr, ℕ, Li
 use Rattle.adr_call.specs.declared.outcome.Outcome.TheVariants as outcomes
 use Rattle.adr_call.specs.declared.event.Event.{Event}
 use Rattle.adr_call.specs.declared.event.Event.TheVariants as events
+use Rattle.adr_call.specs.declared.event.Coming.{Coming}
+use Rattle.adr_call.specs.declared.event.Coming.TheVariants as comings
+use Rattle.adr_call.specs.declared.event.Use.{Use}
+use Rattle.adr_call.specs.declared.event.Use.TheVariants as used
+use Rattle.adr_call.specs.declared.event.Made.{Made}
+use Rattle.adr_call.specs.declared.event.Made.TheVariants as mades
 use Rattle.adr_call.specs.declared.refusal.AdoptRefusal.{AdoptRefusal}
 use Rattle.adr_call.specs.declared.refusal.ServeRefusal.{ServeRefusal}
 use Rattle.adr_call.specs.declared.refusal.ServeRefusal.TheVariants as serves
@@ -15,23 +21,23 @@ use Rattle.adr_model.specs.Serve.{Request, Reply, is_quarantined, serve}
 use Rattle.adr_model.specs.Client.{call_meant}
 use Rattle.adr_model.specs.Write.{Revive}
 use Rattle.adr_model.specs.Collect.{adopt, backup}
-use Rattle.adr_disk.specs.declared.memory.Mishap.TheVariants.{Fails, Stops}
+use Rattle.adr_disk.specs.declared.memory.Mishap.TheVariants.{Fails}
 use Rattle.adr_model.specs.Replica.{Call, ToWrite, Standing, Up, Down, Failed, Replica, on_disk, on_new_disk, Book, begun, Move, Settle, moved, Went, Met, moves_of_commit, moves_of_start, standing_after, Device, commit_goes, start_goes, device_after_commit, device_after_start, device_settled}
-use Rattle.adr_model.specs.World.{Name, World, Given, LastReply, Snapshot, Gone, Sent, stays, nothing, noted, bound, bound_at, replica_at, with_replica, of_made, of_controller, does, asks, after_serve, served, serves_request, delivers, backed_up, adopts, of_image, put_back, after_moves, reported}
-use Rattle.adr_model.specs.Cycles.{pulls, reply_limit, pull_version}
-use Rattle.adr_model.specs.Step.{gives, step}
+use Rattle.adr_model.specs.World.{Name, World, Given, LastReply, Snapshot, Gone, Sent, stays, nothing, noted, bound, bound_at, replica_at, with_replica, of_made, of_controller, does, asks, after_serve, served, serves_request, delivers, backed_up, adopts, put_back, after_moves, reported}
+use Rattle.adr_model.specs.Cycles.{pulls, pull_version}
+use Rattle.adr_model.specs.Step.{gives, comes, uses, makes, step}
 use Rattle.adr_model.specs.Sound.{IsOrderlyStore, IsOrderlyState, IsOrderlyReplica, IsOrderlySnapshot, AreBoundOnce, IsOrderlyWorld}
-use Rattle.adr_model.specs.Convergence.{IsNewName, IsUnbound, MayHappen}
+use Rattle.adr_model.specs.Convergence.{IsNewName, IsUnbound, MayCome, MayBind, MayHappen}
 use Rattle.adr_model.proofs.Members.{member_left, member_right, member_of_either}
 use Rattle.adr_law_calls.proofs.Served.{served_is_spelled}
 use Rattle.adr_law_calls.proofs.Still.{new_is_formed}
 use Rattle.adr_law_convergence.proofs.Found.{bound_member, each_bound, in_place}
-use Rattle.adr_law_convergence.proofs.Reached.{made_case, reached_case, fits_case}
+use Rattle.adr_law_convergence.proofs.Reached.{made_case, reached_case, fits_case, image_case, installs_case, restores_case}
 use Rattle.adr_law_convergence.proofs.Binding.{only_made}
 use Rattle.adr_law_convergence.proofs.OrderlyLogs.{new_log_orderly}
 use Rattle.adr_law_convergence.proofs.OrderlyReplicas.{IsGivenCall, asked_given, call_orderly, woken_orderly, replica_in, on_disk_orderly, plan_orderly, stop_orderly, start_orderly, commit_orderly}
-use Rattle.adr_law_convergence.proofs.Called.{IsKeptBehind, calls_so, asks_so, serves_so, delivers_so, plans_so, stops_so, starts_so, reports_so}
-use Rattle.adr_law_convergence.proofs.Exchanges.{IsKeptByCalls, pull_so, pulls_so, ring_so}
+use Rattle.adr_law_convergence.proofs.Called.{IsKeptBehind, calls_so, asks_so, serves_so, delivers_so, meets_so, reports_so}
+use Rattle.adr_law_convergence.proofs.Exchanges.{IsKeptByCalls, pulls_so, goes_so}
 
 -- ---- controllers
 
@@ -204,24 +210,6 @@ module _ (w : World) (is : IsOrderlyWorld w) where
       by (Ok s) e = fits_case Orderly w (area_fits (new_log s) s.store) (record w { book = begun w.book s; replicas = place (on_new_disk name s) }, outcomes.Ok) is
           (λ fits. moved_on (begun w.book s) (place (on_new_disk name s)) (places (on_new_disk name s) refl (on_disk_orderly w name s (new_log s) (woken_orderly w image dsa inv s of d i e) (new_log_orderly s fits))))
 
-  of_bound : (image : Name) (act : Store → Gone) → ((i : Store) → IsOrderlyStore i → Orderly (act i)) → Orderly (of_image w (bound_at w.images image) act)
-  of_bound image act acts = by (bound_at w.images image) refl
-    where
-      by : (o : Option Store) → bound_at w.images image ≡ o → Orderly (of_image w o act)
-      by None e = is
-      by (Some i) e = acts i (bound_member IsOrderlyStore w.images image i is.images e)
-
-  pub restored : (name image : Name) (inv : Identifier) → Member inv w.given.invs
-      → Orderly (of_made (stays w) (replica_at w name) (λ r. of_image w (bound_at w.images image) (λ i. adopts w (with_replica w.replicas) name (adopt i r.safe.dsa inv))))
-  restored name image inv given = made_case Orderly w name (stays w) (λ x. is) (λ r. of_image w (bound_at w.images image) (λ i. adopts w (with_replica w.replicas) name (adopt i r.safe.dsa inv)))
-      (λ r called. of_bound image (λ i. adopts w (with_replica w.replicas) name (adopt i r.safe.dsa inv)) (λ i of. adopted (with_replica w.replicas) name i r.safe.dsa inv of (is.replicas r called.there).safe.dsa given
-      (λ new named orderly. placed w w.replicas here new orderly)))
-
-  pub installed : (name image : Name) (dsa inv : Identifier) → Member dsa w.given.dsas → Member inv w.given.invs → IsNewName w name
-      → Orderly (of_image w (bound_at w.images image) (λ i. adopts w (λ r. w.replicas ++ r ∷ []) name (adopt i dsa inv)))
-  installed name image dsa inv d i new = of_bound image (λ i. adopts w (λ r. w.replicas ++ r ∷ []) name (adopt i dsa inv)) (λ image of. adopted (λ r. w.replicas ++ r ∷ []) name image dsa inv of d i
-      (λ r named orderly. joined w w.replicas here r orderly (λ q m e. new q m (e ∙ named))))
-
   -- a snapshot that is put back
   pub rolled_back : (name : Name) (o : Option Snapshot) → ((s : Snapshot) → o ≡ Some s → IsOrderlySnapshot w s) → Orderly (put_back w name o)
   rolled_back name None all = is
@@ -231,9 +219,9 @@ module _ (w : World) (is : IsOrderlyWorld w) where
       is.replies is.images is.snapshots is.bound_requests is.bound_replies is.bound_images is.bound_snapshots
 
   -- a new, empty controller, with identifiers that lines gave
-  pub comes : (name : Name) (dsa inv : Identifier) → Member dsa w.given.dsas → Member inv w.given.invs → IsNewName w name
+  begins : (name : Name) (dsa inv : Identifier) → Member dsa w.given.dsas → Member inv w.given.invs → IsNewName w name
       → IsOrderlyWorld (record w { book = begun w.book (empty_state dsa inv); replicas = w.replicas ++ on_new_disk name (empty_state dsa inv) ∷ [] })
-  comes name dsa inv d i new = moved_on (begun w.book (empty_state dsa inv)) (w.replicas ++ on_new_disk name (empty_state dsa inv) ∷ [])
+  begins name dsa inv d i new = moved_on (begun w.book (empty_state dsa inv)) (w.replicas ++ on_new_disk name (empty_state dsa inv) ∷ [])
       (joined w w.replicas here (on_new_disk name (empty_state dsa inv)) (on_disk_orderly w name (empty_state dsa inv) (new_log (empty_state dsa inv)) empty (record { version = refl; within = omega arith })) new)
     where
       empty : IsOrderlyState w (empty_state dsa inv)
@@ -311,39 +299,47 @@ module _ (w : World) (is : IsOrderlyWorld w) where
   copies name = made_case Sends_snapshot w name (nothing w) (λ x. (refl, λ s e. absurd (cc))) (λ r. (w, outcomes.Ok, Some (record { state = r.read; log = r.device.read_log })))
       (λ r called. (refl, only_made (IsOrderlySnapshot w) (record { state = r.read; log = r.device.read_log }) (record { state = (is.replicas r called.there).read; log = (is.replicas r called.there).read_log })))
 
-  pub step_orderly : (e : Event) → MayHappen w e → IsOrderlyWorld (step w e).0
-  step_orderly (events.Controller name dsa inv) may = comes (gives w (dsa ∷ []) (inv ∷ [])) (gives_more w is (dsa ∷ []) (inv ∷ [])) name dsa inv (member_right w.given.dsas (dsa ∷ []) dsa (inl refl)) (member_right w.given.invs (inv ∷ []) inv (inl refl)) may.0
-  step_orderly (events.Time now) may = at_time w is now
-  step_orderly (events.Calls name what) may = does_orderly name (call_meant what w.time) (asked_given what w.time may)
-  step_orderly (events.Ask name partner max version bind) may = bound_behind (asks w name partner max version).0 (asks_orderly w is name partner max version)
+  comes_orderly : (name : Name) (inv : Identifier) (how : Coming) → MayCome w name inv how → IsOrderlyWorld (comes w name inv how).0
+  comes_orderly name inv (comings.Fresh dsa) may = begins (gives w (dsa ∷ []) (inv ∷ [])) (gives_more w is (dsa ∷ []) (inv ∷ [])) name dsa inv (member_right w.given.dsas (dsa ∷ []) dsa (inl refl)) (member_right w.given.invs (inv ∷ []) inv (inl refl)) may.0
+  comes_orderly name inv (comings.Installed dsa image) may =
+      let more = gives_more w is (dsa ∷ []) (inv ∷ []) in
+      installs_case (Orderly w is) w name inv image dsa more (λ i e. adopted (gives w (dsa ∷ []) (inv ∷ [])) more (λ r. w.replicas ++ r ∷ []) name i dsa inv (bound_member IsOrderlyStore w.images image i is.images e)
+      (member_right w.given.dsas (dsa ∷ []) dsa (inl refl)) (member_right w.given.invs (inv ∷ []) inv (inl refl)) (λ r named orderly. joined (gives w (dsa ∷ []) (inv ∷ [])) w.replicas (here (gives w (dsa ∷ []) (inv ∷ [])) more) r orderly (λ q m same. may.0 q m (same ∙ named))))
+  comes_orderly name inv (comings.Restored image) may =
+      let more = gives_more w is [] (inv ∷ []) in
+      restores_case (Orderly w is) w name inv image (λ o plain. more) (λ r called i e. adopted (gives w [] (inv ∷ [])) more (with_replica w.replicas) name i r.safe.dsa inv (bound_member IsOrderlyStore w.images image i is.images e)
+      (more.replicas r called.there).safe.dsa (member_right w.given.invs (inv ∷ []) inv (inl refl)) (λ new named orderly. placed (gives w [] (inv ∷ [])) w.replicas (here (gives w [] (inv ∷ [])) more) new orderly))
+
+  uses_orderly : (name bind : Name) (what : Use) → IsOrderlyWorld (uses w name what bind).0
+  uses_orderly name bind used.Deliver = behind_call w is _ (delivers_orderly w is name (bound_at w.replies bind) (λ r e. bound_member IsSpelledReply w.replies bind r is.replies e))
+  uses_orderly name bind (used.Revive guid parent text) =
+      image_case (Orderly w is) w (bound_at w.images bind) (λ i. does w name (ToWrite (Revive i guid parent text) w.time)) is
+      (λ i e. does_orderly name (ToWrite (Revive i guid parent text) w.time) (bound_member IsOrderlyStore w.images bind i is.images e).formed)
+  uses_orderly name bind used.Rollback = made_case (Orderly w is) w name (stays w) (λ x. is) (λ r. put_back w name (bound_at w.snapshots bind))
+      (λ r called. rolled_back w is name (bound_at w.snapshots bind) (λ s e. bound_member (IsOrderlySnapshot w) w.snapshots bind s is.snapshots e))
+
+  makes_orderly : (name bind : Name) (what : Made) → MayBind w what bind → IsOrderlyWorld (makes w name what bind).0
+  makes_orderly name bind (mades.Ask partner max version) may = bound_behind (asks w name partner max version).0 (asks_orderly w is name partner max version)
     where
       bound_behind : (v : World) → IsBehindCall w v → IsOrderlyWorld (record v { requests = bound v.requests bind (asks w name partner max version).2 })
       bound_behind v b = requested v (behind_call w is v b) bind (asks w name partner max version).2 (subst (λ (x : World). IsUnbound x.requests bind) (sym b.is) may)
-  step_orderly (events.Serve name request bind) may = bound_behind (serves_request w name (bound_at w.requests request)).0 (serves_orderly w is name (bound_at w.requests request))
+  makes_orderly name bind (mades.Serve request) may = bound_behind (serves_request w name (bound_at w.requests request)).0 (serves_orderly w is name (bound_at w.requests request))
     where
       bound_behind : (v : World) → IsBehindCall w v → IsOrderlyWorld (record v { replies = bound v.replies bind (serves_request w name (bound_at w.requests request)).2 })
       bound_behind v b = replied v (behind_call w is v b) bind (serves_request w name (bound_at w.requests request)).2 (subst (λ (x : World). IsUnbound x.replies bind) (sym b.is) may) (serves_spelled w is name (bound_at w.requests request))
-  step_orderly (events.Deliver name reply) may = behind_call w is _ (delivers_orderly w is name (bound_at w.replies reply) (λ r e. bound_member IsSpelledReply w.replies reply r is.replies e))
-  step_orderly (events.Pull name source max) may = (pull_so IsOrderlyWorld (λ v q. Unit {0}) SpelledIn (λ o. Unit {0}) calls_orderly name source max w is).0
-  step_orderly (events.Cycle name source max) may = pulls_orderly w is name source max reply_limit
-  step_orderly (events.Ring name others rounds max) may = (ring_so IsOrderlyWorld (λ v q. Unit {0}) SpelledIn (λ o. Unit {0}) calls_orderly (λ n d e. tt) name others rounds max w is).0
-  step_orderly (events.Revive name guid image parent text) may = by (bound_at w.images image) refl
-    where
-      by : (o : Option Store) → bound_at w.images image ≡ o → IsOrderlyWorld (of_image w o (λ i. does w name (ToWrite (Revive i guid parent text) w.time))).0
-      by None e = is
-      by (Some i) e = does_orderly name (ToWrite (Revive i guid parent text) w.time) (bound_member IsOrderlyStore w.images image i is.images e).formed
-  step_orderly (events.Backup name bind) may =
+  makes_orderly name bind mades.Backup may =
       subst (λ (v : World). IsOrderlyWorld (record v { images = bound v.images bind (of_controller w name (nothing w) (λ r. backed_up w (backup r.safe))).2 })) (sym (backs_up name).0)
       (imaged w is bind (of_controller w name (nothing w) (λ r. backed_up w (backup r.safe))).2 may (backs_up name).1)
-  step_orderly (events.Restore name image inv) may = restored (gives w [] (inv ∷ [])) (gives_more w is [] (inv ∷ [])) name image inv (member_right w.given.invs (inv ∷ []) inv (inl refl))
-  step_orderly (events.Install name dsa image inv) may = installed (gives w (dsa ∷ []) (inv ∷ [])) (gives_more w is (dsa ∷ []) (inv ∷ [])) name image dsa inv (member_right w.given.dsas (dsa ∷ []) dsa (inl refl)) (member_right w.given.invs (inv ∷ []) inv (inl refl)) may.0
-  step_orderly (events.Snapshot name bind) may =
+  makes_orderly name bind mades.Snapshot may =
       subst (λ (v : World). IsOrderlyWorld (record v { snapshots = bound v.snapshots bind (of_made (nothing w) (replica_at w name) (λ r. (w, outcomes.Ok, Some (record { state = r.read; log = r.device.read_log })))).2 })) (sym (copies name).0)
       (copied w is bind (of_made (nothing w) (replica_at w name) (λ r. (w, outcomes.Ok, Some (record { state = r.read; log = r.device.read_log })))).2 may (copies name).1)
-  step_orderly (events.Rollback name snapshot) may = made_case (λ (g : Gone). IsOrderlyWorld g.0) w name (stays w) (λ x. is) (λ r. put_back w name (bound_at w.snapshots snapshot))
-      (λ r called. rolled_back w is name (bound_at w.snapshots snapshot) (λ s e. bound_member (IsOrderlySnapshot w) w.snapshots snapshot s is.snapshots e))
-  step_orderly (events.StopAfter name calls how) may = behind_call w is _ (plans_so Q IsGivenCall w keeps name (record { calls = calls; mishap = Stops how }))
-  step_orderly (events.Fail name calls) may = behind_call w is _ (plans_so Q IsGivenCall w keeps name (record { calls = calls; mishap = Fails }))
-  step_orderly (events.Stop name) may = behind_call w is _ (stops_so Q IsGivenCall w keeps name)
-  step_orderly (events.Start name) may = behind_call w is _ (starts_so Q IsGivenCall w keeps name)
-  step_orderly (events.Report name what) may = behind_call w is _ (reports_so Q IsGivenCall w keeps name (λ r. reported w r.safe what))
+
+  pub step_orderly : (e : Event) → MayHappen w e → IsOrderlyWorld (step w e).0
+  step_orderly (events.Time now) may = at_time w is now
+  step_orderly (events.Comes name inv how) may = comes_orderly name inv how may
+  step_orderly (events.Calls name what) may = does_orderly name (call_meant what w.time) (asked_given what w.time may)
+  step_orderly (events.Uses name what bind) may = uses_orderly name bind what
+  step_orderly (events.Binds name what bind) may = makes_orderly name bind what may
+  step_orderly (events.Asks name what) may = behind_call w is _ (reports_so Q IsGivenCall w keeps name (λ r. reported w r.safe what))
+  step_orderly (events.Goes name what) may = (goes_so IsOrderlyWorld (λ v q. Unit {0}) SpelledIn (λ o. Unit {0}) calls_orderly (λ n d e. tt) name what w is).0
+  step_orderly (events.Meets name what) may = behind_call w is _ (meets_so Q IsGivenCall w keeps name what)

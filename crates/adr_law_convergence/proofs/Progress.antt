@@ -4,12 +4,11 @@ use Rattle.std.specs.Prelude.{nat_lt}
 use Rattle.std.proofs.lemmas.Bool.Decides.{nat_tests}
 use Rattle.std.proofs.lemmas.Bool.{and_parts, ltb-true, le-ltb, lt-ltb}
 use Rattle.adr_values.specs.declared.stamp.Unit.{Unit as Named}
-use Rattle.adr_values.specs.declared.mark.Mark.{Mark}
 use Rattle.adr_model.specs.Member.{Member}
 use Rattle.adr_model.specs.Update.{unit_of}
 use Rattle.adr_model.specs.Store.{Held, State}
 use Rattle.adr_model.specs.Change.{Item}
-use Rattle.adr_model.specs.Serve.{Request, last_local, units_of, is_above_mark, is_unseen, sendable, candidates, item_length, byte_limit, first_items, reply_of, begins_at, reply_to}
+use Rattle.adr_model.specs.Serve.{Request, last_local, units_of, is_above_mark, is_unseen, sendable, item_length, byte_limit, first_items, reply_of, reply_to}
 use Rattle.adr_model.proofs.Members.{of_filter, member_left, member_right}
 use Rattle.adr_law_calls.proofs.Ground.{answering, first_front}
 use Rattle.adr_law_calls.proofs.Candidates.{Rises, candidates_rise, candidate_from, unit_there}

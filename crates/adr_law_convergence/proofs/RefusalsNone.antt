@@ -28,7 +28,7 @@ use Rattle.adr_law_convergence.proofs.RefusalsServed.{is_for_age, not_too_old}
 use Rattle.adr_law_convergence.proofs.RefusalsPlain.{asked}
 use Rattle.adr_law_convergence.proofs.RefusalsSpared.{serves_so, takes_so, spared}
 use Rattle.adr_law_convergence.proofs.Binding.{IsRequest, IsReply, only_made}
-use Rattle.adr_law_convergence.proofs.Exchanges.{IsKeptByCalls, pull_so, pulls_so, ring_so}
+use Rattle.adr_law_convergence.proofs.Exchanges.{IsKeptByCalls, goes_so}
 use Rattle.adr_law_convergence.proofs.Stepping.{calls_sound}
 use Rattle.adr_law_convergence.proofs.CoveredEvents.{CoversPurged, calls_covered}
 
@@ -74,9 +74,7 @@ pub never_too_old : NeverTooOld
 never_too_old w e sound may covered a m = free_is_not is_age 32 a.outcome refl
     (spared (IsFree is_age) age_is_grave w (λ usn. refl) (λ name request. served_young w name (bound_at w.requests request) (λ q is s of. bound_member (λ (p : Request). at_most s.purged p.vector ≡ true) w.requests request q (covered.requests s of) is))
     (λ name reply. taken_young w name (bound_at w.replies reply))
-    (λ name source max. (pull_so IsPurgedCovered CoversPurged (λ v r. Unit {0}) (IsFree is_age) young_calls name source max w covered).1)
-    (λ name source max n. (pulls_so IsPurgedCovered CoversPurged (λ v r. Unit {0}) (IsFree is_age) young_calls name source max n w covered).1)
-    (λ name others rounds max. (ring_so IsPurgedCovered CoversPurged (λ v r. Unit {0}) (IsFree is_age) young_calls (λ n d f. refl) name others rounds max w covered).1) (λ i n. (sound.images i n).formed) e may a m)
+    (λ name what. (goes_so IsPurgedCovered CoversPurged (λ v r. Unit {0}) (IsFree is_age) young_calls (λ n d f. refl) name what w covered).1) (λ i n. (sound.images i n).formed) e may a m)
 
 -- ---- damage
 
@@ -122,9 +120,7 @@ unharmed : (w : World) → IsSoundWorld w → (e : Event) → MayHappen w e → 
 unharmed w sound e may = spared (IsFree is_damage) damage_is_grave w (λ usn. refl)
     (λ name request. served_harmless w sound name (bound_at w.requests request) (λ q is. bound_member (IsSoundRequest w.book) w.requests request q sound.requests is))
     (λ name reply. taken_harmless w sound name (bound_at w.replies reply) (λ p is. bound_member (IsSoundReply w.book) w.replies reply p sound.replies is))
-    (λ name source max. (pull_so IsSoundWorld IsRequest IsReply (IsFree is_damage) harmless_calls name source max w sound).1)
-    (λ name source max n. (pulls_so IsSoundWorld IsRequest IsReply (IsFree is_damage) harmless_calls name source max n w sound).1)
-    (λ name others rounds max. (ring_so IsSoundWorld IsRequest IsReply (IsFree is_damage) harmless_calls (λ n d f. refl) name others rounds max w sound).1) (λ i m. (sound.images i m).formed) e may
+    (λ name what. (goes_so IsSoundWorld IsRequest IsReply (IsFree is_damage) harmless_calls (λ n d f. refl) name what w sound).1) (λ i m. (sound.images i m).formed) e may
 
 pub no_damage : NoDamage
 no_damage w e sound may = (

@@ -1,9 +1,10 @@
 -- What holds of plain outcomes, of a USN and of how requests and replies are refused holds of each answer to a line.
-use Rattle.std.proofs.Common.{◌≡◌, List, ℕ, Option, Some, None, Result, Ok, Err, refl, length}
+use Rattle.std.proofs.Common.{◌≡◌, ℕ, Option, Some, None, Result, Ok, Err, refl, length}
 use Rattle.adr_call.specs.declared.answer.Answer.{Answer}
 use Rattle.adr_call.specs.declared.outcome.Outcome.{Outcome}
 use Rattle.adr_call.specs.declared.outcome.Outcome.TheVariants as outcomes
 use Rattle.adr_call.specs.declared.event.Event.{Event}
+use Rattle.adr_call.specs.declared.event.Exchange.{Exchange}
 use Rattle.adr_call.specs.declared.refusal.WriteRefusal.{WriteRefusal}
 use Rattle.adr_call.specs.declared.refusal.ServeRefusal.{ServeRefusal}
 use Rattle.adr_call.specs.declared.refusal.ServeRefusal.TheVariants as serves
@@ -21,9 +22,7 @@ use Rattle.adr_model.specs.Refused.{write_refused, serve_refused, take_refused, 
 use Rattle.adr_model.specs.Client.{done, written}
 use Rattle.adr_model.specs.Replica.{Call, Pending, ToWrite, ToTake, ToQuarantine, Replica, commit_goes}
 use Rattle.adr_model.specs.World.{Name, World, Gone, Sent, stays, nothing, bound_at, committed, commit, after_call, does, after_serve, served, serves_request, after_take, delivered, delivers}
-use Rattle.adr_model.specs.Cycles.{pull, pulls, reply_limit}
-use Rattle.adr_model.specs.Rings.{rings}
-use Rattle.adr_model.specs.Step.{step}
+use Rattle.adr_model.specs.Step.{goes, step}
 use Rattle.adr_model.specs.Convergence.{MayHappen}
 use Rattle.adr_law_convergence.proofs.Refusals.{IsPlain, write_refused_plainly, after_calls}
 use Rattle.adr_law_convergence.proofs.RefusalsPlain.{line_case}
@@ -74,8 +73,6 @@ module _ (P : Outcome → Type 0) (plain : (o : Outcome) → IsPlain o → P o) 
   writes_so made name what = plain_reached (λ (g : Gone). P g.1) w name (stays w) plain (λ r. after_call w r (ToWrite what w.time) (done r.safe (ToWrite what w.time))) (λ r is up. wrote made r (ToWrite what w.time) (write r.safe what w.time))
 
   pub spared : ((usn : ℕ) → P (outcomes.Usn usn)) → ((name request : Name) → P (serves_request w name (bound_at w.requests request)).1) → ((name reply : Name) → P (delivers w name (bound_at w.replies reply)).1)
-      → ((name source : Name) (max : ℕ) → Each (λ (a : Answer). P a.outcome) (pull w name source max).1) → ((name source : Name) (max n : ℕ) → Each (λ (a : Answer). P a.outcome) (pulls n w name source max).1)
-      → ((name : Name) (others : List Name) (rounds max : ℕ) → Each (λ (a : Answer). P a.outcome) (rings w name others rounds max).1)
+      → ((name : Name) (what : Exchange) → Each (λ (a : Answer). P a.outcome) (goes w name what).1)
       → Each (λ (i : Name × Store). IsFormedStore i.1) w.images → (e : Event) → MayHappen w e → Each (λ (a : Answer). P a.outcome) (step w e).1
-  spared made serving taking pulling cycling ringing images e may = line_case (λ f v a. P a.outcome) w (λ f v a is. plain a.outcome is) (λ f verb name what is wrote_it. writes_so made name what) (λ name request bind. serving name request) taking pulling
-      (λ name source max. cycling name source max reply_limit) ringing images e may
+  spared made serving taking going images e may = line_case (λ f v a. P a.outcome) w (λ f v a is. plain a.outcome is) (λ f verb name what is wrote_it. writes_so made name what) (λ name request bind. serving name request) taking going images e may

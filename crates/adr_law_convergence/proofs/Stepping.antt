@@ -1,35 +1,35 @@
 -- Every line that may happen keeps a world sound, as long as it stays clean.
-use Rattle.std.proofs.Common.{◌≡◌, ℕ, true, [], ◌∷◌, ◌++◌, Option, Some, None, refl, sym, subst}
+use Rattle.std.proofs.Common.{◌≡◌, ℕ, true, [], ◌∷◌, Option, Some, None, refl, sym, subst}
 use Rattle.adr_call.specs.declared.outcome.Outcome.{Outcome}
 use Rattle.adr_call.specs.declared.outcome.Outcome.TheVariants as outcomes
 use Rattle.adr_call.specs.declared.call.Call.{Call as Asked}
 use Rattle.adr_call.specs.declared.call.Call.TheVariants as calls
 use Rattle.adr_call.specs.declared.event.Event.{Event}
 use Rattle.adr_call.specs.declared.event.Event.TheVariants as events
+use Rattle.adr_call.specs.declared.event.Coming.{Coming}
+use Rattle.adr_call.specs.declared.event.Coming.TheVariants as comings
+use Rattle.adr_call.specs.declared.event.Use.{Use}
+use Rattle.adr_call.specs.declared.event.Use.TheVariants as used
+use Rattle.adr_call.specs.declared.event.Made.{Made}
+use Rattle.adr_call.specs.declared.event.Made.TheVariants as mades
 use Rattle.adr_model.specs.Member.{Member}
-use Rattle.adr_model.specs.Store.{Store}
+use Rattle.adr_model.specs.Update.{Identifier}
 use Rattle.adr_model.specs.Serve.{Request, Reply}
 use Rattle.adr_model.specs.Client.{IsWellAsked, call_meant, done}
 use Rattle.adr_model.specs.Write.{Revive}
-use Rattle.adr_model.specs.Collect.{adopt, backup}
-use Rattle.adr_disk.specs.declared.memory.Mishap.TheVariants.{Fails, Stops}
-use Rattle.adr_disk.specs.declared.memory.Plan.{Plan}
-use Rattle.adr_model.specs.Replica.{Book, Call, ToWrite, Standing, Up, Down, Failed, Replica, device_settled}
-use Rattle.adr_model.specs.World.{Name, World, Snapshot, Gone, Sent, stays, nothing, bound, bound_at, does, asks, serves_request, delivered, delivers, after_call, backed_up, adopts, of_made, of_image, put_back, of_controller, with_plan, stops, starts, with_replica, replica_at, reported}
-use Rattle.adr_model.specs.Cycles.{pull, pulls, reply_limit, pull_version}
-use Rattle.adr_model.specs.Step.{gives, step}
+use Rattle.adr_model.specs.Collect.{backup}
+use Rattle.adr_model.specs.Replica.{Book, Call, ToWrite, Up, Down, Replica, device_settled}
+use Rattle.adr_model.specs.World.{Name, World, Snapshot, Gone, Sent, stays, nothing, bound, bound_at, does, asks, serves_request, delivered, delivers, after_call, backed_up, of_made, put_back, of_controller, replica_at, reported}
+use Rattle.adr_model.specs.Cycles.{pull, pulls, pull_version}
+use Rattle.adr_model.specs.Step.{comes, uses, made_bound, makes, step}
 use Rattle.adr_model.specs.Sound.{IsSoundCall, IsSoundRequest, IsSoundReply, IsSoundStore, IsSoundWorld, IsTraced}
-use Rattle.adr_model.specs.Convergence.{MayHappen}
+use Rattle.adr_model.specs.Convergence.{MayCome, MayHappen}
 use Rattle.adr_law_convergence.proofs.Found.{bound_member}
-use Rattle.adr_law_convergence.proofs.Reached.{made_case, reached_case}
+use Rattle.adr_law_convergence.proofs.Reached.{made_case, reached_case, image_case, installs_case, restores_case, meets_case}
 use Rattle.adr_law_convergence.proofs.Acting.{planned, stopped, started_sound, call_sound, take_sound}
 use Rattle.adr_law_convergence.proofs.Binding.{Makes, only_made, IsRequest, IsReply, IsImage, asks_sound, serves_sound, backups_sound, requested, replied, imaged, aside, telling, telling_sound, replies_are_sound}
-use Rattle.adr_law_convergence.proofs.Exchanges.{Sends, IsKeptByCalls, pull_so, pulls_so, ring_so}
+use Rattle.adr_law_convergence.proofs.Exchanges.{Sends, IsKeptByCalls, pull_so, pulls_so, goes_so}
 use Rattle.adr_law_convergence.proofs.Coming.{given_sound, new_comes, installed, restored}
-
--- a message that is made is bound in the world in which it was
-made_bound : {A : Type 0} (w : World) (P : World → A → Type 0) (t : Sent A) (with_it : World → World) (makes : Makes w P t) → IsSoundWorld (with_it (telling w makes.0)) → IsSoundWorld (with_it t.0)
-made_bound w P t with_it makes sound = subst (λ (v : World). IsSoundWorld (with_it v)) (sym makes.2) sound
 
 asked_sound : (book : Book) (what : Asked) (now : ℕ) → IsWellAsked what → IsSoundCall book (call_meant what now)
 asked_sound book (calls.Write what) now is = is
@@ -92,17 +92,30 @@ module _ (w : World) (sound : IsSoundWorld w) where
   abbrev SoundBehind : Gone → Type 0
   SoundBehind g = IsSoundWorld g.0
 
-  started_so : (r : Replica) → Member r w.replicas → (standing : Standing) → r.standing ≡ standing → SoundBehind (starts w r standing)
-  started_so r there Up is = sound
-  started_so r there Down is = started_sound w sound r there (λ up. absurd (cc)) outcomes.Ok
-  started_so r there Failed is = started_sound w sound r there (λ up. absurd (cc)) outcomes.Ok
+  comes_sound : (name : Name) (inv : Identifier) (how : Coming) → MayCome w name inv how → SoundBehind (comes w name inv how)
+  comes_sound name inv (comings.Fresh dsa) may = new_comes w sound inv may.1.1 name dsa may.0 may.1.0
+  comes_sound name inv (comings.Installed dsa image) may = installs_case SoundBehind w name inv image dsa (given_sound w (dsa ∷ []) (inv ∷ []) sound)
+      (λ i e. installed w sound inv may.1.1 name i (bound_member (IsSoundStore w.book) w.images image i sound.images e) (bound_member (IsTraced w) w.images image i sound.identifiers.images e) dsa may.0 may.1.0)
+  comes_sound name inv (comings.Restored image) may = restores_case SoundBehind w name inv image (λ o plain. given_sound w [] (inv ∷ []) sound)
+      (λ r called i e. restored w sound inv may name i (bound_member (IsSoundStore w.book) w.images image i sound.images e) (bound_member (IsTraced w) w.images image i sound.identifiers.images e) r called.there called.name)
 
-  with_plan_so : (name : Name) (plan : Plan) → SoundBehind (of_made (stays w) (replica_at w name) (λ r. with_plan w r plan))
-  with_plan_so name plan = made_case SoundBehind w name (stays w) (λ x. sound) (λ r. with_plan w r plan) (λ r called. planned w sound r called.there plan)
+  -- a world into which a snapshot was put back isn't clean
+  put_back_so : (name : Name) (o : Option Snapshot) → (put_back w name o).0.clean ≡ true → SoundBehind (put_back w name o)
+  put_back_so name None clean = sound
+  put_back_so name (Some s) clean = absurd (cc)
 
-  image_case : (v : World) (Q : Gone → Type 0) (o : Option Store) (act : Store → Gone) → Q (v, outcomes.Absent) → ((i : Store) → o ≡ Some i → Q (act i)) → Q (of_image v o act)
-  image_case v Q None act none acts = none
-  image_case v Q (Some i) act none acts = acts i refl
+  uses_sound : (name bind : Name) (what : Use) → (uses w name what bind).0.clean ≡ true → SoundBehind (uses w name what bind)
+  uses_sound name bind used.Deliver clean = delivers_sound w sound name (bound_at w.replies bind) (λ r e. bound_member (IsReply w) w.replies bind r (replies_are_sound w sound) e)
+  uses_sound name bind (used.Revive guid parent text) clean =
+      image_case SoundBehind w (bound_at w.images bind) (λ i. does w name (ToWrite (Revive i guid parent text) w.time)) sound
+      (λ i e. does_sound w sound name (ToWrite (Revive i guid parent text) w.time) (bound_member (IsSoundStore w.book) w.images bind i sound.images e).formed)
+  uses_sound name bind used.Rollback clean =
+      made_case (λ (g : Gone). g.0.clean ≡ true → SoundBehind g) w name (stays w) (λ x is. sound) (λ r. put_back w name (bound_at w.snapshots bind)) (λ r called is. put_back_so name (bound_at w.snapshots bind) is) clean
+
+  -- what is made is bound in the world in which it was made
+  bound_sound : {A : Type 0} (P : World → A → Type 0) (t : Sent A) (binds : World → Option A → World) → Makes w P t
+      → ((v : World) → IsSoundWorld v → ((x : A) → t.2 ≡ Some x → P v x) → IsSoundWorld (binds v t.2)) → SoundBehind (made_bound t binds)
+  bound_sound P t binds m binding = subst (λ (v : World). IsSoundWorld (binds v t.2)) (sym m.2) (binding (telling w m.0) (telling_sound w sound m.0 m.1) m.3)
 
   abbrev copied : (name : Name) → Sent Snapshot
   copied name = of_made (nothing w) (replica_at w name) (λ r. (w, outcomes.Ok, Some (record { state = r.read; log = r.device.read_log })))
@@ -110,51 +123,23 @@ module _ (w : World) (sound : IsSoundWorld w) where
   snapshot_makes : (name : Name) → (copied name).0 ≡ w
   snapshot_makes name = made_case (λ (t : Sent Snapshot). t.0 ≡ w) w name (nothing w) (λ x. refl) (λ r. (w, outcomes.Ok, Some (record { state = r.read; log = r.device.read_log }))) (λ r called. refl)
 
-  -- a world into which a snapshot was put back isn't clean
-  put_back_so : (name : Name) (o : Option Snapshot) → (put_back w name o).0.clean ≡ true → SoundBehind (put_back w name o)
-  put_back_so name None clean = sound
-  put_back_so name (Some s) clean = absurd (cc)
+  makes_sound : (name bind : Name) (what : Made) → SoundBehind (makes w name what bind)
+  makes_sound name bind (mades.Ask partner max version) = bound_sound IsRequest (asks w name partner max version) (λ v q. record v { requests = bound v.requests bind q }) (asks_sound w sound name partner max version)
+      (λ v is all. requested v is bind (asks w name partner max version).2 all)
+  makes_sound name bind (mades.Serve request) = bound_sound IsReply (serves_request w name (bound_at w.requests request)) (λ v r. record v { replies = bound v.replies bind r }) (serves_sound w sound name (bound_at w.requests request) (request_bound w sound request))
+      (λ v is all. replied v is bind (serves_request w name (bound_at w.requests request)).2 all)
+  makes_sound name bind mades.Backup = bound_sound IsImage (of_controller w name (nothing w) (λ r. backed_up w (backup r.safe))) (λ v i. record v { images = bound v.images bind i }) (backups_sound w sound name)
+      (λ v is all. imaged v is bind (of_controller w name (nothing w) (λ r. backed_up w (backup r.safe))).2 all)
+  makes_sound name bind mades.Snapshot =
+      subst (λ (v : World). IsSoundWorld (record v { snapshots = bound v.snapshots bind (copied name).2 })) (sym (snapshot_makes name)) (aside w sound w.time (bound w.snapshots bind (copied name).2))
 
   pub step_sound : (e : Event) → MayHappen w e → (step w e).0.clean ≡ true → IsSoundWorld (step w e).0
-  step_sound (events.Controller name dsa inv) may clean = new_comes w sound inv may.1.1 name dsa may.0 may.1.0
   step_sound (events.Time now) may clean = aside w sound now w.snapshots
+  step_sound (events.Comes name inv how) may clean = comes_sound name inv how may
   step_sound (events.Calls name what) may clean = does_sound w sound name (call_meant what w.time) (asked_sound w.book what w.time may)
-  step_sound (events.Ask name partner max version bind) may clean =
-      let makes = asks_sound w sound name partner max version in
-      made_bound w IsRequest (asks w name partner max version) (λ v. record v { requests = bound v.requests bind (asks w name partner max version).2 }) makes
-      (requested (telling w makes.0) (telling_sound w sound makes.0 makes.1) bind (asks w name partner max version).2 makes.3)
-  step_sound (events.Serve name request bind) may clean =
-      let makes = serves_sound w sound name (bound_at w.requests request) (request_bound w sound request) in
-      made_bound w IsReply (serves_request w name (bound_at w.requests request)) (λ v. record v { replies = bound v.replies bind (serves_request w name (bound_at w.requests request)).2 }) makes
-      (replied (telling w makes.0) (telling_sound w sound makes.0 makes.1) bind (serves_request w name (bound_at w.requests request)).2 makes.3)
-  step_sound (events.Deliver name reply) may clean =
-      delivers_sound w sound name (bound_at w.replies reply) (λ r e. bound_member (IsReply w) w.replies reply r (replies_are_sound w sound) e)
-  step_sound (events.Pull name source max) may clean = pull_sound w sound name source max
-  step_sound (events.Cycle name source max) may clean = pulls_sound w sound name source max reply_limit
-  step_sound (events.Ring name others rounds max) may clean = (ring_so IsSoundWorld IsRequest IsReply (λ o. Unit {0}) only_worlds (λ n d e. tt) name others rounds max w sound).0
-  step_sound (events.Revive name guid image parent text) may clean = revived (bound_at w.images image) refl
-    where
-      revived : (o : Option Store) → bound_at w.images image ≡ o → IsSoundWorld (of_image w o (λ i. does w name (ToWrite (Revive i guid parent text) w.time))).0
-      revived None e = sound
-      revived (Some i) e = does_sound w sound name (ToWrite (Revive i guid parent text) w.time) (bound_member (IsSoundStore w.book) w.images image i sound.images e).formed
-  step_sound (events.Backup name bind) may clean =
-      let makes = backups_sound w sound name in
-      made_bound w IsImage (of_controller w name (nothing w) (λ r. backed_up w (backup r.safe))) (λ v. record v { images = bound v.images bind (of_controller w name (nothing w) (λ r. backed_up w (backup r.safe))).2 }) makes
-      (imaged (telling w makes.0) (telling_sound w sound makes.0 makes.1) bind (of_controller w name (nothing w) (λ r. backed_up w (backup r.safe))).2 makes.3)
-  step_sound (events.Restore name image inv) may clean =
-      made_case SoundBehind (gives w [] (inv ∷ [])) name (stays (gives w [] (inv ∷ []))) (λ x. given_sound w [] (inv ∷ []) sound)
-      (λ r. of_image (gives w [] (inv ∷ [])) (bound_at w.images image) (λ i. adopts (gives w [] (inv ∷ [])) (with_replica w.replicas) name (adopt i r.safe.dsa inv)))
-      (λ r called. image_case (gives w [] (inv ∷ [])) SoundBehind (bound_at w.images image) (λ i. adopts (gives w [] (inv ∷ [])) (with_replica w.replicas) name (adopt i r.safe.dsa inv)) (given_sound w [] (inv ∷ []) sound)
-      (λ i e. restored w sound inv may name i (bound_member (IsSoundStore w.book) w.images image i sound.images e) (bound_member (IsTraced w) w.images image i sound.identifiers.images e) r called.there called.name))
-  step_sound (events.Install name dsa image inv) may clean =
-      image_case (gives w (dsa ∷ []) (inv ∷ [])) SoundBehind (bound_at w.images image) (λ i. adopts (gives w (dsa ∷ []) (inv ∷ [])) (λ r. w.replicas ++ r ∷ []) name (adopt i dsa inv)) (given_sound w (dsa ∷ []) (inv ∷ []) sound)
-      (λ i e. installed w sound inv may.1.1 name i (bound_member (IsSoundStore w.book) w.images image i sound.images e) (bound_member (IsTraced w) w.images image i sound.identifiers.images e) dsa may.0 may.1.0)
-  step_sound (events.Snapshot name bind) may clean =
-      subst (λ (v : World). IsSoundWorld (record v { snapshots = bound v.snapshots bind (copied name).2 })) (sym (snapshot_makes name)) (aside w sound w.time (bound w.snapshots bind (copied name).2))
-  step_sound (events.Rollback name snapshot) may clean =
-      made_case (λ (g : Gone). g.0.clean ≡ true → SoundBehind g) w name (stays w) (λ x is. sound) (λ r. put_back w name (bound_at w.snapshots snapshot)) (λ r called is. put_back_so name (bound_at w.snapshots snapshot) is) clean
-  step_sound (events.StopAfter name calls how) may clean = with_plan_so name (record { calls = calls; mishap = Stops how })
-  step_sound (events.Fail name calls) may clean = with_plan_so name (record { calls = calls; mishap = Fails })
-  step_sound (events.Stop name) may clean = made_case SoundBehind w name (stays w) (λ x. sound) (λ r. stops w r) (λ r called. stopped w sound r called.there Down (device_settled r))
-  step_sound (events.Start name) may clean = made_case SoundBehind w name (stays w) (λ x. sound) (λ r. starts w r r.standing) (λ r called. started_so r called.there r.standing refl)
-  step_sound (events.Report name what) may clean = reached_case SoundBehind w name (stays w) (λ x. sound) (λ r. (w, reported w r.safe what)) (λ r called up. sound)
+  step_sound (events.Uses name what bind) may clean = uses_sound name bind what clean
+  step_sound (events.Binds name what bind) may clean = makes_sound name bind what
+  step_sound (events.Asks name what) may clean = reached_case SoundBehind w name (stays w) (λ x. sound) (λ r. (w, reported w r.safe what)) (λ r called up. sound)
+  step_sound (events.Goes name what) may clean = (goes_so IsSoundWorld IsRequest IsReply (λ o. Unit {0}) only_worlds (λ n d e. tt) name what w sound).0
+  step_sound (events.Meets name what) may clean = meets_case SoundBehind w name (λ o plain. sound) (λ r is. stopped w sound r is.there Down (device_settled r))
+      (λ r is not_up. started_sound w sound r is.there not_up outcomes.Ok) (λ r is plan. planned w sound r is.there plan) what

@@ -8,6 +8,7 @@ use Rattle.adr_call.specs.declared.answer.Answer.{Answer}
 use Rattle.adr_call.specs.declared.outcome.Outcome.{Outcome}
 use Rattle.adr_call.specs.declared.outcome.Outcome.TheVariants as outcomes
 use Rattle.adr_call.specs.declared.event.Event.TheVariants as events
+use Rattle.adr_call.specs.declared.event.Exchange.TheVariants as exchanges
 use Rattle.adr_model.specs.Member.{Member, Each}
 use Rattle.adr_model.specs.Directory.{directory}
 use Rattle.adr_model.specs.Visible.{visible}
@@ -256,7 +257,7 @@ module _ (w : World) (sound : IsSoundWorld w) (first : Name) (others : List Name
         by [] e = subst (λ (ys : List Name). vectors_alike v (first ∷ ys) ≡ true) (sym e) refl
         by (x ∷ xs) e = vectors_are_alike v v_sound first others (there (omega (arith, le, ap length e))) (told.1 (omega (arith, le, counted rounds (map (exchange max) cs))))
 
-  tells : (directories vectors : Bool) → (step w (events.Ring first others rounds max)).1 ≡ answer (codes "ring") first (outcomes.Compared rounds directories vectors) ∷ []
+  tells : (directories vectors : Bool) → (step w (events.Goes first (exchanges.Ring others rounds max))).1 ≡ answer (codes "ring") first (outcomes.Compared rounds directories vectors) ∷ []
       → (length others ≤ rounds → directories ≡ true) × (2 * length others ≤ rounds → vectors ≡ true)
   tells directories vectors = by (cycles (times rounds cs) max w).0 (cycles (times rounds cs) max w).1 (all_exchanged (times rounds cs) max w) (left_other (times rounds cs) max w)
     where

@@ -5,6 +5,7 @@ use Rattle.adr_call.specs.declared.answer.Answer.{Answer}
 use Rattle.adr_call.specs.declared.outcome.Outcome.TheVariants as outcomes
 use Rattle.adr_call.specs.declared.event.Event.{Event}
 use Rattle.adr_call.specs.declared.event.Event.TheVariants as events
+use Rattle.adr_call.specs.declared.event.Exchange.TheVariants as exchanges
 use Rattle.adr_model.specs.Member.{Member, Each}
 use Rattle.adr_model.specs.Directory.{directory}
 use Rattle.adr_model.specs.World.{World, Name, answer, empty_world}
@@ -22,7 +23,7 @@ pub record Exchange : Type 0 where
   pub max : ℕ
 
 abbrev pub line_of : Exchange → Event
-line_of x = events.Cycle x.dest x.source x.max
+line_of x = events.Goes x.dest (exchanges.Cycle x.source x.max)
 
 -- a cycle ended with its last reply: each of its answers is ok, and none is that there is more
 abbrev pub IsWhole : List Answer → Type 0
@@ -159,7 +160,7 @@ RingsAreConnected = (first : Name) (others : List Name) → AreConnected (ring f
 abbrev pub RingsTell : World → Type 0
 RingsTell w =
     (first : Name) (others : List Name) (rounds max : ℕ) (directories vectors : Bool)
-    → (step w (events.Ring first others rounds max)).1 ≡ answer (codes "ring") first (outcomes.Compared rounds directories vectors) ∷ []
+    → (step w (events.Goes first (exchanges.Ring others rounds max))).1 ≡ answer (codes "ring") first (outcomes.Compared rounds directories vectors) ∷ []
     → (length others ≤ rounds → directories ≡ true) × (2 * length others ≤ rounds → vectors ≡ true)
 
 abbrev pub RingsTellTrue : Type 0

@@ -38,7 +38,7 @@ next_may (x ∷ before) after e w may = next_may before after e (step w x).0 may
 
 -- a controller that is up answers with what it has in view, and nothing changes
 pub show_so : (w : World) (r : Replica) → IsSoundWorld w → Member r w.replicas → r.standing ≡ Up
-    → step w (events.Report r.name Directory) ≡ (w, answer (codes "show") r.name (outcomes.Show (directory (in_view w r.safe))) ∷ [])
+    → step w (events.Asks r.name Directory) ≡ (w, answer (codes "show") r.name (outcomes.Show (directory (in_view w r.safe))) ∷ [])
 show_so w r sound m up =
     ap (λ o. told (codes "show") r.name (of_made (stays w) o (λ q. where_up (stays w) q.standing (w, outcomes.Show (shown w q.safe))))) (found_by_name w r sound m)
     ∙ ap (λ st. told (codes "show") r.name (where_up (stays w) st (w, outcomes.Show (shown w r.safe)))) up

@@ -1,35 +1,31 @@
 -- What lines may say, one after the other, may happen.
-use Rattle.std.proofs.Common.{◌≡◌, ◌≢◌, ◌<◌, ◌∙◌, ◌⊎◌, inl, inr, refl, sym, ap, subst, ℕ, List, [], ◌∷◌, ◌++◌, Bool, true, false, ◌||◌, Option, Some, None, length, arith}
+use Rattle.std.proofs.Common.{◌≡◌, ◌∙◌, ◌⊎◌, inl, inr, refl, sym, ap, subst, ℕ, List, [], ◌∷◌, ◌++◌, Bool, true, false, ◌||◌, Option, Some, None}
 use Rattle.std.specs.Str.{bytes_eq}
 use Rattle.std.proofs.lemmas.List.{append-nil, map-append}
 use Rattle.adr_call.specs.declared.outcome.Outcome.TheVariants as outcomes
-use Rattle.adr_call.specs.declared.write.Write.{Write}
-use Rattle.adr_call.specs.declared.write.Write.TheVariants as writes
-use Rattle.adr_call.specs.declared.call.Call.{Call}
-use Rattle.adr_call.specs.declared.call.Call.TheVariants as calls
 use Rattle.adr_call.specs.declared.event.Event.{Event}
 use Rattle.adr_call.specs.declared.event.Event.TheVariants as events
-use Rattle.adr_values.specs.Assignments.{Given}
+use Rattle.adr_call.specs.declared.event.Coming.{Coming}
+use Rattle.adr_call.specs.declared.event.Coming.TheVariants as comings
+use Rattle.adr_call.specs.declared.event.Made.{Made}
+use Rattle.adr_call.specs.declared.event.Made.TheVariants as mades
 use Rattle.adr_values.proofs.ExactCalls.{not_then}
 use Rattle.adr_schedule.specs.declared.fault.Cause.{Cause}
-use Rattle.adr_schedule.specs.Grammar.{AreGiven, HasCallLine, IsAllowed}
+use Rattle.adr_schedule.specs.Grammar.{IsAllowed}
 use Rattle.adr_values.specs.First.{first_of}
 use Rattle.adr_schedule.specs.Seen.{Seen, nothing_seen, is_bound, if_bound, if_inv_given, if_given, if_full, unless_bound, cause_after, with_controller, seen_after, IsFollowing}
 use Rattle.adr_model.specs.Member.{Member, Each}
-use Rattle.adr_model.specs.Write.{Revive, write_meant}
-use Rattle.adr_model.specs.Given.{IsWellGiven}
-use Rattle.adr_model.specs.Client.{IsWellAsked, call_meant}
+use Rattle.adr_model.specs.Client.{call_meant}
 use Rattle.adr_model.specs.Store.{empty_state}
 use Rattle.adr_model.specs.Collect.{backup, adopt}
-use Rattle.adr_disk.specs.declared.memory.Mishap.TheVariants.{Fails, Stops}
-use Rattle.adr_model.specs.Replica.{ToWrite, Replica, Book, on_new_disk, begun}
+use Rattle.adr_model.specs.Replica.{Replica, Book, on_new_disk, begun}
 use Rattle.adr_model.specs.World.{Name, World, empty_world, nothing, bound, bound_at, replica_at, of_made, of_controller, asks, serves_request, backed_up, reported}
-use Rattle.adr_model.specs.Cycles.{reply_limit}
 use Rattle.adr_model.specs.Step.{gives, step}
 use Rattle.adr_model.specs.Convergence.{IsNewName, IsNewDsa, IsNewInv, IsUnbound, MayHappen, MayAllHappen}
 use Rattle.adr_model.proofs.Members.{member_of_either}
 use Rattle.adr_law_convergence.proofs.Found.{same_name_tests}
-use Rattle.adr_law_headline.proofs.Naming.{names_of, Stays, adopted_case, does_stay, revives_stay, asks_stay, serves_stay, delivers_stay, backups_stay, snapshots_stay, restores_stay, rollbacks_stay, reports_stay, plans_stay, stops_stay, starts_stay, pull_stays, pulls_stay, rings_stay}
+use Rattle.adr_law_headline.proofs.Naming.{names_of, Stays, adopted_case, does_stay, uses_stay, asks_stay, serves_stay, backups_stay, snapshots_stay, restores_stay, reports_stay, goes_stay, meets_stay}
+use Rattle.adr_law_lines.proofs.Asking.{well_asked}
 
 -- what is bound to names is among what lines bound
 abbrev AreAmong : {A : Type 0} → List (Name × A) → List Name → Type 0
@@ -125,50 +121,44 @@ new_controller seen name dsa inv h =
 unbound : {A : Type 0} (xs : List (Name × A)) (names : List Name) (name : Name) → AreAmong xs names → is_bound names name ≡ false → IsUnbound xs name
 unbound xs names name among none x m e = no_member names name none (subst (λ n. Member n names) e (among x m))
 
-new_request : (seen : Seen) (name partner bind : Name) (max version : ℕ) → cause_after seen (events.Ask name partner max version bind) ≡ None → is_bound seen.requests bind ≡ false
+new_request : (seen : Seen) (name partner bind : Name) (max version : ℕ) → cause_after seen (events.Binds name (mades.Ask partner max version) bind) ≡ None → is_bound seen.requests bind ≡ false
 new_request seen name partner bind max version h =
     let first = none_of (unless_bound seen.controllers name) (unless_bound seen.controllers partner ∷ if_bound seen.requests bind ∷ []) h in
     let second = none_of (unless_bound seen.controllers partner) (if_bound seen.requests bind ∷ []) first.1 in
     not_then (is_bound seen.requests bind) _ (none_of (if_bound seen.requests bind) [] second.1).0
 
-new_reply : (seen : Seen) (name request bind : Name) → cause_after seen (events.Serve name request bind) ≡ None → is_bound seen.replies bind ≡ false
+new_reply : (seen : Seen) (name request bind : Name) → cause_after seen (events.Binds name (mades.Serve request) bind) ≡ None → is_bound seen.replies bind ≡ false
 new_reply seen name request bind h =
     let first = none_of (unless_bound seen.controllers name) (unless_bound seen.requests request ∷ if_bound seen.replies bind ∷ []) h in
     let second = none_of (unless_bound seen.requests request) (if_bound seen.replies bind ∷ []) first.1 in
     not_then (is_bound seen.replies bind) _ (none_of (if_bound seen.replies bind) [] second.1).0
 
-new_image : (seen : Seen) (name bind : Name) → cause_after seen (events.Backup name bind) ≡ None → is_bound seen.images bind ≡ false
+new_image : (seen : Seen) (name bind : Name) → cause_after seen (events.Binds name mades.Backup bind) ≡ None → is_bound seen.images bind ≡ false
 new_image seen name bind h =
     let first = none_of (unless_bound seen.controllers name) (if_bound seen.images bind ∷ []) h in
     not_then (is_bound seen.images bind) _ (none_of (if_bound seen.images bind) [] first.1).0
 
-new_snapshot : (seen : Seen) (name bind : Name) → cause_after seen (events.Snapshot name bind) ≡ None → is_bound seen.snapshots bind ≡ false
+new_snapshot : (seen : Seen) (name bind : Name) → cause_after seen (events.Binds name mades.Snapshot bind) ≡ None → is_bound seen.snapshots bind ≡ false
 new_snapshot seen name bind h =
     let first = none_of (unless_bound seen.controllers name) (if_bound seen.snapshots bind ∷ []) h in
     not_then (is_bound seen.snapshots bind) _ (none_of (if_bound seen.snapshots bind) [] first.1).0
 
-new_inv : (seen : Seen) (name image inv : Name) → cause_after seen (events.Restore name image inv) ≡ None → is_bound seen.invs inv ≡ false
+new_inv : (seen : Seen) (name image inv : Name) → cause_after seen (events.Comes name inv (comings.Restored image)) ≡ None → is_bound seen.invs inv ≡ false
 new_inv seen name image inv h =
     let first = none_of (unless_bound seen.controllers name) (unless_bound seen.images image ∷ if_inv_given seen inv ∷ []) h in
     let second = none_of (unless_bound seen.images image) (if_inv_given seen inv ∷ []) first.1 in
     not_then (is_bound seen.invs inv) _ (none_of (if_inv_given seen inv) [] second.1).0
 
-installed : (seen : Seen) (name dsa image inv : Name) → cause_after seen (events.Install name dsa image inv) ≡ None → IsNew seen name dsa inv
+installed : (seen : Seen) (name dsa image inv : Name) → cause_after seen (events.Comes name inv (comings.Installed dsa image)) ≡ None → IsNew seen name dsa inv
 installed seen name dsa image inv h =
     new_controller seen name dsa inv (none_of (unless_bound seen.images image) (if_bound seen.controllers name ∷ if_given seen dsa inv ∷ if_full seen ∷ []) h).1
 
 -- ---- events
 
-some_given : (values : List Given) → 0 < length values → values ≢ []
-some_given values some none = let size : length values ≡ 0 = ap length none in omega arith
-
 name_among : (rs : List Replica) (r : Replica) → Member r rs → Member r.name (names_of rs)
 name_among [] r m = absurd m
 name_among (q ∷ qs) r (inl e) = inl (ap (λ x. x.name) e)
 name_among (q ∷ qs) r (inr m) = inr (name_among qs r m)
-
-abbrev Goes : Seen → World → Event → Type 0
-Goes seen w e = MayHappen w e × Agrees (seen_after seen e) (step w e).0
 
 -- a name and identifiers that no line bound or gave are new
 new_name : (seen : Seen) (w : World) (name dsa inv : Name) → Agrees seen w → IsNew seen name dsa inv → IsNewName w name
@@ -215,78 +205,60 @@ inv_given seen w inv agrees = record {
   snapshots = agrees.snapshots;
 }
 
--- a write whose values are given as a line gives them is one that a client can send
-well_given : (what : Write) → AreGiven what → IsWellGiven (write_meant what)
-well_given (writes.Add guid class parent text values) given = given
-well_given (writes.Modify guid values) given = (given.0, some_given values given.1)
-well_given (writes.Rename guid parent text) given = tt
-well_given (writes.Delete guid) given = tt
-well_given (writes.Link from attr to) given = tt
-well_given (writes.Unlink from attr to) given = tt
+abbrev Goes : Seen → World → Event → Type 0
+Goes seen w e = MayHappen w e × Agrees (seen_after seen e) (step w e).0
 
--- and so is a call that a line says
-pub well_asked : (what : Call) → HasCallLine what → IsWellAsked what
-well_asked (calls.Write what) given = well_given what given
-well_asked (calls.Collect lifetime) given = tt
-well_asked calls.Upgrade given = tt
-
-event_may : (seen : Seen) (w : World) (e : Event) → Agrees seen w → cause_after seen e ≡ None → IsAllowed e → Goes seen w e
-event_may seen w (events.Controller name dsa inv) agrees cause allowed =
+comes_so : (seen : Seen) (w : World) (name inv : Name) (how : Coming) → Agrees seen w → cause_after seen (events.Comes name inv how) ≡ None → Goes seen w (events.Comes name inv how)
+comes_so seen w name inv (comings.Fresh dsa) agrees cause =
     (is_new seen w name dsa inv agrees (new_controller seen name dsa inv cause), came seen w (on_new_disk name (empty_state dsa inv)) dsa inv _ agrees)
-event_may seen w (events.Time now) agrees cause allowed =
-    (tt, record { controllers = agrees.controllers; dsas = agrees.dsas; invs = agrees.invs; requests = agrees.requests; replies = agrees.replies; images = agrees.images; snapshots = agrees.snapshots })
-event_may seen w (events.Calls name what) agrees cause allowed =
-    (well_asked what allowed.0, agrees_on seen w (step w (events.Calls name what)).0 agrees (does_stay w name (call_meant what w.time)))
-event_may seen w (events.Ask name partner max version bind) agrees cause allowed =
-    let t = asks w name partner max version in let a = agrees_on seen w t.0 agrees (asks_stay w name partner max version) in (
-      unbound w.requests seen.requests bind agrees.requests (new_request seen name partner bind max version cause),
-      record { controllers = a.controllers; dsas = a.dsas; invs = a.invs; requests = one_more t.0.requests seen.requests bind t.2 a.requests; replies = a.replies; images = a.images; snapshots = a.snapshots },
-    )
-event_may seen w (events.Serve name request bind) agrees cause allowed =
-    let t = serves_request w name (bound_at w.requests request) in let a = agrees_on seen w t.0 agrees (serves_stay w name (bound_at w.requests request)) in (
-      unbound w.replies seen.replies bind agrees.replies (new_reply seen name request bind cause),
-      record { controllers = a.controllers; dsas = a.dsas; invs = a.invs; requests = a.requests; replies = one_more t.0.replies seen.replies bind t.2 a.replies; images = a.images; snapshots = a.snapshots },
-    )
-event_may seen w (events.Deliver name reply) agrees cause allowed = (tt, agrees_on seen w (step w (events.Deliver name reply)).0 agrees (delivers_stay w name (bound_at w.replies reply)))
-event_may seen w (events.Pull name source max) agrees cause allowed = (tt, agrees_on seen w (step w (events.Pull name source max)).0 agrees (pull_stays w name source max))
-event_may seen w (events.Cycle name source max) agrees cause allowed = (tt, agrees_on seen w (step w (events.Cycle name source max)).0 agrees (pulls_stay reply_limit w name source max))
-event_may seen w (events.Ring name others rounds max) agrees cause allowed =
-    (tt, agrees_on seen w (step w (events.Ring name others rounds max)).0 agrees (rings_stay w name others rounds max))
-event_may seen w (events.Revive name guid image parent text) agrees cause allowed =
-    (tt, agrees_on seen w (step w (events.Revive name guid image parent text)).0 agrees (revives_stay w name (bound_at w.images image) (λ i. ToWrite (Revive i guid parent text) w.time)))
-event_may seen w (events.Backup name bind) agrees cause allowed =
-    let t = of_controller w name (nothing w) (λ r. backed_up w (backup r.safe)) in let a = agrees_on seen w t.0 agrees (backups_stay w name) in (
-      unbound w.images seen.images bind agrees.images (new_image seen name bind cause),
-      record { controllers = a.controllers; dsas = a.dsas; invs = a.invs; requests = a.requests; replies = a.replies; images = one_more t.0.images seen.images bind t.2 a.images; snapshots = a.snapshots },
-    )
-event_may seen w (events.Restore name image inv) agrees cause allowed =
-    let v = gives w [] (inv ∷ []) in (
-      (λ m. no_member seen.invs inv (new_inv seen name image inv cause) (subst (λ xs. Member inv xs) agrees.invs m)),
-      agrees_on (record seen { invs = seen.invs ++ inv ∷ [] }) v (step w (events.Restore name image inv)).0 (inv_given seen w inv agrees)
-          (restores_stay v name (bound_at v.images image) (λ r i. adopt i r.safe.dsa inv)),
-    )
-event_may seen w (events.Install name dsa image inv) agrees cause allowed =
+comes_so seen w name inv (comings.Installed dsa image) agrees cause =
     let v = gives w (dsa ∷ []) (inv ∷ []) in (
       is_new seen w name dsa inv agrees (installed seen name dsa image inv cause),
       adopted_case (λ g. Agrees (with_controller seen name dsa inv) g.0) v (λ r. v.replicas ++ r ∷ []) name (bound_at v.images image) (λ i. adopt i dsa inv)
           (λ o. came_not seen w name dsa inv agrees) (λ s. came seen w (on_new_disk name s) dsa inv (begun w.book s) agrees),
     )
-event_may seen w (events.Snapshot name bind) agrees cause allowed =
+comes_so seen w name inv (comings.Restored image) agrees cause =
+    let v = gives w [] (inv ∷ []) in (
+      (λ m. no_member seen.invs inv (new_inv seen name image inv cause) (subst (λ xs. Member inv xs) agrees.invs m)),
+      agrees_on (record seen { invs = seen.invs ++ inv ∷ [] }) v (step w (events.Comes name inv (comings.Restored image))).0 (inv_given seen w inv agrees)
+          (restores_stay v name (bound_at v.images image) (λ r i. adopt i r.safe.dsa inv)),
+    )
+
+binds_so : (seen : Seen) (w : World) (name : Name) (what : Made) (bind : Name) → Agrees seen w → cause_after seen (events.Binds name what bind) ≡ None → Goes seen w (events.Binds name what bind)
+binds_so seen w name (mades.Ask partner max version) bind agrees cause =
+    let t = asks w name partner max version in let a = agrees_on seen w t.0 agrees (asks_stay w name partner max version) in (
+      unbound w.requests seen.requests bind agrees.requests (new_request seen name partner bind max version cause),
+      record { controllers = a.controllers; dsas = a.dsas; invs = a.invs; requests = one_more t.0.requests seen.requests bind t.2 a.requests; replies = a.replies; images = a.images; snapshots = a.snapshots },
+    )
+binds_so seen w name (mades.Serve request) bind agrees cause =
+    let t = serves_request w name (bound_at w.requests request) in let a = agrees_on seen w t.0 agrees (serves_stay w name (bound_at w.requests request)) in (
+      unbound w.replies seen.replies bind agrees.replies (new_reply seen name request bind cause),
+      record { controllers = a.controllers; dsas = a.dsas; invs = a.invs; requests = a.requests; replies = one_more t.0.replies seen.replies bind t.2 a.replies; images = a.images; snapshots = a.snapshots },
+    )
+binds_so seen w name mades.Backup bind agrees cause =
+    let t = of_controller w name (nothing w) (λ r. backed_up w (backup r.safe)) in let a = agrees_on seen w t.0 agrees (backups_stay w name) in (
+      unbound w.images seen.images bind agrees.images (new_image seen name bind cause),
+      record { controllers = a.controllers; dsas = a.dsas; invs = a.invs; requests = a.requests; replies = a.replies; images = one_more t.0.images seen.images bind t.2 a.images; snapshots = a.snapshots },
+    )
+binds_so seen w name mades.Snapshot bind agrees cause =
     let t = of_made (nothing w) (replica_at w name) (λ r. (w, outcomes.Ok, Some (record { state = r.read; log = r.device.read_log }))) in
     let a = agrees_on seen w t.0 agrees (snapshots_stay w name (λ r. record { state = r.read; log = r.device.read_log })) in (
       unbound w.snapshots seen.snapshots bind agrees.snapshots (new_snapshot seen name bind cause),
       record { controllers = a.controllers; dsas = a.dsas; invs = a.invs; requests = a.requests; replies = a.replies; images = a.images; snapshots = one_more t.0.snapshots seen.snapshots bind t.2 a.snapshots },
     )
-event_may seen w (events.Rollback name snapshot) agrees cause allowed =
-    (tt, agrees_on seen w (step w (events.Rollback name snapshot)).0 agrees (rollbacks_stay w name (bound_at w.snapshots snapshot)))
-event_may seen w (events.StopAfter name calls how) agrees cause allowed =
-    (tt, agrees_on seen w (step w (events.StopAfter name calls how)).0 agrees (plans_stay w name (record { calls = calls; mishap = Stops how })))
-event_may seen w (events.Fail name calls) agrees cause allowed =
-    (tt, agrees_on seen w (step w (events.Fail name calls)).0 agrees (plans_stay w name (record { calls = calls; mishap = Fails })))
-event_may seen w (events.Stop name) agrees cause allowed = (tt, agrees_on seen w (step w (events.Stop name)).0 agrees (stops_stay w name))
-event_may seen w (events.Start name) agrees cause allowed = (tt, agrees_on seen w (step w (events.Start name)).0 agrees (starts_stay w name))
-event_may seen w (events.Report name what) agrees cause allowed =
-    (tt, agrees_on seen w (step w (events.Report name what)).0 agrees (reports_stay w name (λ r. reported w r.safe what)))
+
+event_may : (seen : Seen) (w : World) (e : Event) → Agrees seen w → cause_after seen e ≡ None → IsAllowed e → Goes seen w e
+event_may seen w (events.Time now) agrees cause allowed =
+    (tt, record { controllers = agrees.controllers; dsas = agrees.dsas; invs = agrees.invs; requests = agrees.requests; replies = agrees.replies; images = agrees.images; snapshots = agrees.snapshots })
+event_may seen w (events.Comes name inv how) agrees cause allowed = comes_so seen w name inv how agrees cause
+event_may seen w (events.Calls name what) agrees cause allowed =
+    (well_asked what allowed.0, agrees_on seen w (step w (events.Calls name what)).0 agrees (does_stay w name (call_meant what w.time)))
+event_may seen w (events.Uses name what bind) agrees cause allowed = (tt, agrees_on seen w (step w (events.Uses name what bind)).0 agrees (uses_stay w name what bind))
+event_may seen w (events.Binds name what bind) agrees cause allowed = binds_so seen w name what bind agrees cause
+event_may seen w (events.Asks name what) agrees cause allowed =
+    (tt, agrees_on seen w (step w (events.Asks name what)).0 agrees (reports_stay w name (λ r. reported w r.safe what)))
+event_may seen w (events.Goes name what) agrees cause allowed = (tt, agrees_on seen w (step w (events.Goes name what)).0 agrees (goes_stay w name what))
+event_may seen w (events.Meets name what) agrees cause allowed = (tt, agrees_on seen w (step w (events.Meets name what)).0 agrees (meets_stay w name what))
 
 all_may : (es : List Event) (seen : Seen) (w : World) → Agrees seen w → IsFollowing seen es → MayAllHappen w es
 all_may [] seen w agrees follow = tt

@@ -1,5 +1,6 @@
 -- Each call of a controller leaves every state in form.
 use Rattle.std.proofs.Common.{◌≡◌, ◌⊎◌, inl, inr, ⊎_elim, ℕ, List, [], ◌∷◌, ◌++◌, Bool, true, false, Option, Some, None, Result, Ok, Err, refl, sym, ap, subst, fold, length, if◌then◌else◌}
+use Rattle.adr_call.specs.declared.event.Meeting.{Meeting}
 use Rattle.adr_call.specs.declared.outcome.Outcome.{Outcome}
 use Rattle.adr_call.specs.declared.outcome.Outcome.TheVariants as outcomes
 use Rattle.adr_call.specs.declared.refusal.ServeRefusal.{ServeRefusal}
@@ -23,14 +24,15 @@ use Rattle.adr_model.specs.Upgrade.{upgrade}
 use Rattle.adr_model.specs.Lengths.{new_log, area_fits, change_fits}
 use Rattle.adr_model.specs.Refused.{serve_refused, take_refused, quarantined}
 use Rattle.adr_disk.specs.declared.memory.Plan.{Plan}
-use Rattle.adr_model.specs.Replica.{Call, Pending, ToWrite, ToTake, ToCollect, ToUpgrade, ToQuarantine, Standing, Up, Down, Failed, Device, Replica, on_disk, on_new_disk, Book, begun, Settle, moved, moves_of_commit, moves_of_start, standing_after, commit_goes, start_goes, device_after_commit, device_after_start, device_settled}
-use Rattle.adr_model.specs.World.{Name, World, Snapshot, Gone, Sent, stays, nothing, bound_at, replica_at, with_replica, of_made, of_controller, committed, commit, quarantines, after_call, does, noted, asks, after_serve, served, serves_request, after_take, delivered, delivers, backed_up, adopts, of_image, put_back, with_plan, stops, starts}
+use Rattle.adr_model.specs.Replica.{Call, Pending, ToWrite, ToTake, ToCollect, ToUpgrade, ToQuarantine, Standing, Down, Failed, Device, Replica, on_disk, on_new_disk, Book, begun, Settle, moved, moves_of_commit, moves_of_start, standing_after, commit_goes, start_goes, device_after_commit, device_after_start, device_settled}
+use Rattle.adr_model.specs.World.{Name, World, Snapshot, Gone, Sent, stays, nothing, bound_at, replica_at, with_replica, of_made, of_controller, committed, commit, quarantines, after_call, does, noted, asks, after_serve, served, serves_request, after_take, delivered, delivers, backed_up, adopts, of_image, put_back, with_plan, stops, started}
+use Rattle.adr_model.specs.Step.{meets}
 use Rattle.adr_model.proofs.Members.{member_of_either}
 use Rattle.adr_law_convergence.proofs.Found.{bound_member, in_place}
 use Rattle.adr_law_convergence.proofs.Calls.{in_change}
 use Rattle.adr_model.proofs.Calling.{done_changes}
 use Rattle.adr_law_convergence.proofs.Binding.{only_made}
-use Rattle.adr_law_convergence.proofs.Reached.{made_case, up_case, reached_case, within_case}
+use Rattle.adr_law_convergence.proofs.Reached.{made_case, up_case, reached_case, within_case, image_case, meets_case}
 use Rattle.adr_law_convergence.proofs.Moves.{settling, starting, committing}
 use Rattle.adr_law_recorded.specs.Typed.{IsTypedWrite}
 use Rattle.adr_law_recorded.specs.Ranged.{IsRangedRequest}
@@ -115,13 +117,14 @@ module _ (P : Update → Type 0) (w : World) (is : IsWorldInForm P w) where
     served_bound None all = nothing_made (IsReplyInForm P) outcomes.Absent
     served_bound (Some q) all = answered_with q (all q refl) (serve r.safe q w.time) refl
 
-    started_so : InForm (starts w r Down)
-    started_so = moved_world (fold moved (w.book, r) (moves_of_start (start_goes r))) (standing_after r.standing (start_goes r)) (device_after_start r) (starting (IsInForm P) w.book r (is.replicas r there) (start_goes r))
+    planned : (plan : Plan) → InForm (with_plan w r plan)
+    planned plan = let new : Replica = record r { device = record r.device { plan = Some plan } } in moved_on w.book (with_replica w.replicas new) (each_placed new (is.replicas r there))
 
-    started_from : (standing : Standing) → InForm (starts w r standing)
-    started_from Up = is
-    started_from Down = started_so
-    started_from Failed = started_so
+    restarted : InForm (started w r)
+    restarted = moved_world (fold moved (w.book, r) (moves_of_start (start_goes r))) (standing_after r.standing (start_goes r)) (device_after_start r) (starting (IsInForm P) w.book r (is.replicas r there) (start_goes r))
+
+    stopped : InForm (stops w r)
+    stopped = moved_world (moved (w.book, r) Settle) Down (device_settled r) (settling (IsInForm P) w.book r (is.replicas r there))
 
     imaged_from : (b : Bool) → MakesInForm P (IsImageInForm P) (backed_up w (if b then None else Some r.safe.store))
     imaged_from true = nothing_made (IsImageInForm P) quarantined
@@ -165,14 +168,8 @@ module _ (P : Update → Type 0) (w : World) (is : IsWorldInForm P w) where
   copies_in_form name = made_case (MakesInForm P (λ (s : Snapshot). IsInForm P s.state)) w name (nothing w) (nothing_made (λ (s : Snapshot). IsInForm P s.state)) (λ r. (w, outcomes.Ok, Some (record { state = r.read; log = r.device.read_log })))
       (λ r called. (is, only_made (λ (s : Snapshot). IsInForm P s.state) (record { state = r.read; log = r.device.read_log }) (is.replicas r called.there).1))
 
-  pub plans_in_form : (name : Name) (plan : Plan) → InForm (of_made (stays w) (replica_at w name) (λ r. with_plan w r plan))
-  plans_in_form name plan = made_case InForm w name (stays w) (λ x. is) (λ r. with_plan w r plan) (λ r called. moved_on w.book (with_replica w.replicas (record r { device = record r.device { plan = Some plan } })) (each_placed (record r { device = record r.device { plan = Some plan } }) (is.replicas r called.there)))
-
-  pub stops_in_form : (name : Name) → InForm (of_made (stays w) (replica_at w name) (λ r. stops w r))
-  stops_in_form name = made_case InForm w name (stays w) (λ x. is) (λ r. stops w r) (λ r called. moved_world r called.there (moved (w.book, r) Settle) Down (device_settled r) (settling (IsInForm P) w.book r (is.replicas r called.there)))
-
-  pub starts_in_form : (name : Name) → InForm (of_made (stays w) (replica_at w name) (λ r. starts w r r.standing))
-  starts_in_form name = made_case InForm w name (stays w) (λ x. is) (λ r. starts w r r.standing) (λ r called. started_from r called.there r.standing)
+  pub meets_in_form : (name : Name) (what : Meeting) → InForm (of_made (stays w) (replica_at w name) (λ r. meets w r what))
+  meets_in_form name = meets_case InForm w name (λ o plain. is) (λ r called. stopped r called.there) (λ r called down. restarted r called.there) (λ r called plan. planned r called.there plan)
 
   pub reports_in_form : (name : Name) (what : Replica → Outcome) → InForm (of_controller w name (stays w) (λ r. (w, what r)))
   reports_in_form name what = reached_case InForm w name (stays w) (λ x. is) (λ r. (w, what r)) (λ r called up. is)
@@ -189,11 +186,7 @@ module _ (P : Update → Type 0) (w : World) (is : IsWorldInForm P w) where
           (moved_on (begun w.book s) (place (on_new_disk name s)) (places s (adopted_in_form P image dsa inv s of right_dsa right_inv e)))
 
   of_bound : (image : Name) (act : Store → Gone) → ((i : Store) → IsImageInForm P i → InForm (act i)) → InForm (of_image w (bound_at w.images image) act)
-  of_bound image act acts = by (bound_at w.images image) refl
-    where
-      by : (o : Option Store) → bound_at w.images image ≡ o → InForm (of_image w o act)
-      by None e = is
-      by (Some i) e = acts i (bound_member (IsImageInForm P) w.images image i is.images e)
+  of_bound image act acts = image_case InForm w (bound_at w.images image) act is (λ i e. acts i (bound_member (IsImageInForm P) w.images image i is.images e))
 
   pub restores_in_form : (name image : Name) (inv : Identifier) → IsId inv → InForm (of_made (stays w) (replica_at w name) (λ r. of_image w (bound_at w.images image) (λ i. adopts w (with_replica w.replicas) name (adopt i r.safe.dsa inv))))
   restores_in_form name image inv right = made_case InForm w name (stays w) (λ x. is) (λ r. of_image w (bound_at w.images image) (λ i. adopts w (with_replica w.replicas) name (adopt i r.safe.dsa inv)))
@@ -213,6 +206,6 @@ module _ (P : Update → Type 0) (w : World) (is : IsWorldInForm P w) where
           record { time = is.time; replicas = each_placed (on_disk name s.state s.log) (of, of); requests = is.requests; replies = is.replies; images = is.images; snapshots = is.snapshots }
 
   -- a new, empty controller
-  pub comes_in_form : (name : Name) (dsa inv : Identifier) → IsId dsa → IsId inv → IsWorldInForm P (record w { book = begun w.book (empty_state dsa inv); replicas = w.replicas ++ on_new_disk name (empty_state dsa inv) ∷ [] })
-  comes_in_form name dsa inv right_dsa right_inv = let new = new_in_form P dsa inv right_dsa right_inv in
+  pub begins_in_form : (name : Name) (dsa inv : Identifier) → IsId dsa → IsId inv → IsWorldInForm P (record w { book = begun w.book (empty_state dsa inv); replicas = w.replicas ++ on_new_disk name (empty_state dsa inv) ∷ [] })
+  begins_in_form name dsa inv right_dsa right_inv = let new = new_in_form P dsa inv right_dsa right_inv in
       moved_on (begun w.book (empty_state dsa inv)) (w.replicas ++ on_new_disk name (empty_state dsa inv) ∷ []) (each_joined (on_new_disk name (empty_state dsa inv)) (new, new))

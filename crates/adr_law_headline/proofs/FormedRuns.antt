@@ -4,9 +4,18 @@ use Rattle.std.specs.Prelude.{IfSome}
 use Rattle.std.specs.Str.{is_utf8}
 use Rattle.adr_call.specs.declared.answer.Answer.{Answer}
 use Rattle.adr_call.specs.declared.outcome.Outcome.TheVariants as outcomes
+use Rattle.adr_call.specs.declared.call.Call.{Call}
 use Rattle.adr_call.specs.declared.call.Call.TheVariants as calls
 use Rattle.adr_call.specs.declared.event.Event.{Event}
 use Rattle.adr_call.specs.declared.event.Event.TheVariants as events
+use Rattle.adr_call.specs.declared.event.Coming.{Coming}
+use Rattle.adr_call.specs.declared.event.Coming.TheVariants as comings
+use Rattle.adr_call.specs.declared.event.Use.{Use}
+use Rattle.adr_call.specs.declared.event.Use.TheVariants as used
+use Rattle.adr_call.specs.declared.event.Made.{Made}
+use Rattle.adr_call.specs.declared.event.Made.TheVariants as mades
+use Rattle.adr_call.specs.declared.event.Exchange.{Exchange}
+use Rattle.adr_call.specs.declared.event.Exchange.TheVariants as exchanges
 use Rattle.adr_wire.specs.Ranges.{IsId, IsU32}
 use Rattle.adr_model.specs.Member.{Each}
 use Rattle.adr_model.specs.Update.{Identifier, Update}
@@ -14,24 +23,24 @@ use Rattle.adr_model.specs.Store.{Store, State, updates_of}
 use Rattle.adr_model.specs.Serve.{Request, Reply}
 use Rattle.adr_model.specs.Write.{Write, Revive, write_meant}
 use Rattle.adr_model.specs.Given.{IsWellGiven}
+use Rattle.adr_model.specs.Client.{IsWellAsked, call_meant}
 use Rattle.adr_model.specs.Collect.{backup}
-use Rattle.adr_disk.specs.declared.memory.Mishap.TheVariants.{Fails, Stops}
 use Rattle.adr_model.specs.Replica.{ToWrite}
 use Rattle.adr_model.specs.World.{World, Name, Snapshot, Sent, empty_world, nothing, bound, bound_at, replica_at, of_made, of_controller, of_image, does, asks, serves_request, backed_up, reported}
 use Rattle.adr_model.specs.Cycles.{Pulled, pull_served, pull_asked, pull, and_then, pulls, cycle, reply_limit, pull_version}
 use Rattle.adr_model.specs.Rings.{Connection, ring, times, rings}
-use Rattle.adr_model.specs.Step.{ClientWrite, write_of, gives, step, after_lines}
+use Rattle.adr_model.specs.Step.{ClientWrite, write_of, gives, comes, uses, makes, goes, step, after_lines}
 use Rattle.adr_model.specs.Convergence.{MayHappen, MayAllHappen, IsAmidCycles, IsOnTheWay}
 use Rattle.adr_model.proofs.Ringing.{behind_is_amid}
 use Rattle.adr_law_convergence.proofs.Found.{bound_member, each_bound}
-use Rattle.adr_law_recorded.specs.Typed.{IsTypedWrite, IsTyped}
+use Rattle.adr_law_recorded.specs.Typed.{IsTypedWrite, IsTypedCall, IsTyped}
 use Rattle.adr_law_recorded.specs.Ranged.{IsRangedRequest}
 use Rattle.adr_law_headline.specs.Throughout.{HoldsAlways}
-use Rattle.adr_law_headline.specs.Formed.{HasTypedNumbers, AreAllTyped, RunsAreFormed}
+use Rattle.adr_law_headline.specs.Formed.{most_pulled, HasTypedNumbers, AreAllTyped, RunsAreFormed}
 use Rattle.adr_law_headline.specs.Printable.{WritesSo}
 use Rattle.adr_law_headline.proofs.Throughout.{follows_always, always_so}
 use Rattle.adr_law_headline.proofs.StayingFormed.{IsInForm, IsImageInForm, IsReplyInForm, written_by}
-use Rattle.adr_law_headline.proofs.FormedCalls.{IsWorldInForm, MakesInForm, writes_in_form, asks_in_form, serves_in_form, delivers_in_form, collects_in_form, upgrades_in_form, backups_in_form, copies_in_form, plans_in_form, stops_in_form, starts_in_form, reports_in_form, restores_in_form, installs_in_form, puts_back_in_form, comes_in_form}
+use Rattle.adr_law_headline.proofs.FormedCalls.{IsWorldInForm, MakesInForm, writes_in_form, asks_in_form, serves_in_form, delivers_in_form, collects_in_form, upgrades_in_form, backups_in_form, copies_in_form, meets_in_form, reports_in_form, restores_in_form, installs_in_form, puts_back_in_form, begins_in_form}
 
 -- what is so written keeps what holds of all rows
 abbrev pub AreKeptByWrites : (Update → Type 0) → (Write → Type 0) → Type 0
@@ -39,7 +48,7 @@ AreKeptByWrites P Q = (s : State) (what : Write) (now : ℕ) → Each P (updates
 
 -- what a line writes is so: a revival what it writes of any image that is in form, as its own isn't the line's
 abbrev pub SaysSo : (Update → Type 0) → (Write → Type 0) → Event → Type 0
-SaysSo P Q (events.Revive name guid image parent text) = (i : Store) → IsImageInForm P i → Q (Revive i guid parent text)
+SaysSo P Q (events.Uses name (used.Revive guid parent text) image) = (i : Store) → IsImageInForm P i → Q (Revive i guid parent text)
 SaysSo P Q e = WritesSo Q e
 
 -- what is asked of a line
@@ -78,6 +87,11 @@ module _ (P : Update → Type 0) where
   amid_in_form [] max few w is v way = subst (IsWorldInForm P) (sym way) is
   amid_in_form (c ∷ cs) max few w is v (inl (n, e)) = subst (IsWorldInForm P) (sym e) (pulls_in_form c.0 c.1 max few n w is)
   amid_in_form (c ∷ cs) max few w is v (inr way) = amid_in_form cs max few (cycle w c.0 c.1 max).0 (pulls_in_form c.0 c.1 max few reply_limit w is) v way
+
+  goes_in_form : (w : World) → IsWorldInForm P w → (name : Name) (what : Exchange) → IsU32 (most_pulled what) → IsWorldInForm P (goes w name what).0
+  goes_in_form w is name (exchanges.Pull source max) few = pull_in_form name source max few w is
+  goes_in_form w is name (exchanges.Cycle source max) few = pulls_in_form name source max few reply_limit w is
+  goes_in_form w is name (exchanges.Ring others rounds max) few = amid_in_form (times rounds (ring name others)) max few w is (rings w name others rounds max).0 (behind_is_amid name others rounds max w)
 
   -- ---- what is bound
 
@@ -121,40 +135,46 @@ module _ (P : Update → Type 0) where
     revived w is name guid parent text typed so (Some i) all =
         let image = all i refl in written w is name (Revive i guid parent text) image.formed (image.spelled, typed.0, typed.1, typed.2) (so i image)
 
-    event_in_form : (w : World) (is : IsWorldInForm P w) (e : Event) → MayHappen w e → IsTyped e × HasTypedNumbers e → SaysSo P Q e → IsWorldInForm P (step w e).0
-    event_in_form w is (events.Controller name dsa inv) may typed so = comes_in_form P (gives w (dsa ∷ []) (inv ∷ [])) (given_more w (dsa ∷ []) (inv ∷ []) is) name dsa inv typed.0.0 typed.0.1
-    event_in_form w is (events.Time now) may typed so = record { time = typed.1; replicas = is.replicas; requests = is.requests; replies = is.replies; images = is.images; snapshots = is.snapshots }
-    event_in_form w is (events.Calls name (calls.Write what)) may typed so = written w is name (write_meant what) may typed.0 so
-    event_in_form w is (events.Ask name partner max version bind) may typed so =
-        bound_request (asks w name partner max version) bind (asks_in_form P w is name partner max version typed.1 typed.0)
-    event_in_form w is (events.Serve name request bind) may typed so =
+    -- a controller comes to be, or comes back
+    comes_in_form : (w : World) → IsWorldInForm P w → (name : Name) (inv : Identifier) (how : Coming) → IsTyped (events.Comes name inv how) → IsWorldInForm P (comes w name inv how).0
+    comes_in_form w is name inv (comings.Fresh dsa) typed = begins_in_form P (gives w (dsa ∷ []) (inv ∷ [])) (given_more w (dsa ∷ []) (inv ∷ []) is) name dsa inv typed.0 typed.1
+    comes_in_form w is name inv (comings.Installed dsa image) typed = installs_in_form P (gives w (dsa ∷ []) (inv ∷ [])) (given_more w (dsa ∷ []) (inv ∷ []) is) name image dsa inv typed.0 typed.1
+    comes_in_form w is name inv (comings.Restored image) typed = restores_in_form P (gives w [] (inv ∷ [])) (given_more w [] (inv ∷ []) is) name image inv typed
+
+    calls_in_form : (w : World) → IsWorldInForm P w → (name : Name) (what : Call) → IsWellAsked what → IsTypedCall what → SaysSo P Q (events.Calls name what) → IsWorldInForm P (does w name (call_meant what w.time)).0
+    calls_in_form w is name (calls.Write what) may typed so = written w is name (write_meant what) may typed so
+    calls_in_form w is name (calls.Collect lifetime) may typed so = collects_in_form P w is name lifetime
+    calls_in_form w is name calls.Upgrade may typed so = upgrades_in_form P w is name
+
+    -- a controller uses what is bound to a name, and binds what it makes
+    uses_in_form : (w : World) → IsWorldInForm P w → (name : Name) (what : Use) (bind : Name) → IsTyped (events.Uses name what bind) → SaysSo P Q (events.Uses name what bind) → IsWorldInForm P (uses w name what bind).0
+    uses_in_form w is name used.Deliver bind typed so = delivers_in_form P w is name (bound_at w.replies bind) (λ r e. bound_member (IsReplyInForm P) w.replies bind r is.replies e)
+    uses_in_form w is name (used.Revive guid parent text) bind typed so = revived w is name guid parent text typed so (bound_at w.images bind) (λ i e. bound_member (IsImageInForm P) w.images bind i is.images e)
+    uses_in_form w is name used.Rollback bind typed so = puts_back_in_form P w is name bind
+
+    makes_in_form : (w : World) → IsWorldInForm P w → (name : Name) (what : Made) (bind : Name) → IsTyped (events.Binds name what bind) → HasTypedNumbers (events.Binds name what bind) → IsWorldInForm P (makes w name what bind).0
+    makes_in_form w is name (mades.Ask partner max version) bind typed numbers = bound_request (asks w name partner max version) bind (asks_in_form P w is name partner max version numbers typed)
+    makes_in_form w is name (mades.Serve request) bind typed numbers =
         bound_reply (serves_request w name (bound_at w.requests request)) bind (serves_in_form P w is name (bound_at w.requests request) (λ q e. bound_member IsRangedRequest w.requests request q is.requests e))
-    event_in_form w is (events.Deliver name reply) may typed so = delivers_in_form P w is name (bound_at w.replies reply) (λ r e. bound_member (IsReplyInForm P) w.replies reply r is.replies e)
-    event_in_form w is (events.Pull name source max) may typed so = pull_in_form name source max typed.1 w is
-    event_in_form w is (events.Cycle name source max) may typed so = pulls_in_form name source max typed.1 reply_limit w is
-    event_in_form w is (events.Ring name others rounds max) may typed so =
-        amid_in_form (times rounds (ring name others)) max typed.1 w is (rings w name others rounds max).0 (behind_is_amid name others rounds max w)
-    event_in_form w is (events.Calls name (calls.Collect lifetime)) may typed so = collects_in_form P w is name lifetime
-    event_in_form w is (events.Calls name calls.Upgrade) may typed so = upgrades_in_form P w is name
-    event_in_form w is (events.Revive name guid image parent text) may typed so =
-        revived w is name guid parent text typed.0 so (bound_at w.images image) (λ i e. bound_member (IsImageInForm P) w.images image i is.images e)
-    event_in_form w is (events.Backup name bind) may typed so = bound_image (of_controller w name (nothing w) (λ r. backed_up w (backup r.safe))) bind (backups_in_form P w is name)
-    event_in_form w is (events.Restore name image inv) may typed so = restores_in_form P (gives w [] (inv ∷ [])) (given_more w [] (inv ∷ []) is) name image inv typed.0
-    event_in_form w is (events.Install name dsa image inv) may typed so = installs_in_form P (gives w (dsa ∷ []) (inv ∷ [])) (given_more w (dsa ∷ []) (inv ∷ []) is) name image dsa inv typed.0.0 typed.0.1
-    event_in_form w is (events.Snapshot name bind) may typed so =
+    makes_in_form w is name mades.Backup bind typed numbers = bound_image (of_controller w name (nothing w) (λ r. backed_up w (backup r.safe))) bind (backups_in_form P w is name)
+    makes_in_form w is name mades.Snapshot bind typed numbers =
         bound_snapshot (of_made (nothing w) (replica_at w name) (λ r. (w, outcomes.Ok, Some (record { state = r.read; log = r.device.read_log })))) bind (copies_in_form P w is name)
-    event_in_form w is (events.Rollback name snapshot) may typed so = puts_back_in_form P w is name snapshot
-    event_in_form w is (events.StopAfter name calls how) may typed so = plans_in_form P w is name (record { calls = calls; mishap = Stops how })
-    event_in_form w is (events.Fail name calls) may typed so = plans_in_form P w is name (record { calls = calls; mishap = Fails })
-    event_in_form w is (events.Stop name) may typed so = stops_in_form P w is name
-    event_in_form w is (events.Start name) may typed so = starts_in_form P w is name
-    event_in_form w is (events.Report name what) may typed so = reports_in_form P w is name (λ r. reported w r.safe what)
+
+    event_in_form : (w : World) (is : IsWorldInForm P w) (e : Event) → MayHappen w e → IsTyped e × HasTypedNumbers e → SaysSo P Q e → IsWorldInForm P (step w e).0
+    event_in_form w is (events.Time now) may typed so = record { time = typed.1; replicas = is.replicas; requests = is.requests; replies = is.replies; images = is.images; snapshots = is.snapshots }
+    event_in_form w is (events.Comes name inv how) may typed so = comes_in_form w is name inv how typed.0
+    event_in_form w is (events.Calls name what) may typed so = calls_in_form w is name what may typed.0 so
+    event_in_form w is (events.Uses name what bind) may typed so = uses_in_form w is name what bind typed.0 so
+    event_in_form w is (events.Binds name what bind) may typed so = makes_in_form w is name what bind typed.0 typed.1
+    event_in_form w is (events.Asks name what) may typed so = reports_in_form P w is name (λ r. reported w r.safe what)
+    event_in_form w is (events.Goes name what) may typed so = goes_in_form w is name what typed.1
+    event_in_form w is (events.Meets name what) may typed so = meets_in_form P w is name what
 
     -- ---- runs
 
     way_in_form : (w : World) (e : Event) → IsWorldInForm P w → MayHappen w e → IsLine P Q e → (v : World) → IsOnTheWay w e v → IsWorldInForm P v
-    way_in_form w (events.Cycle name source max) is may so v way = subst (IsWorldInForm P) (sym way.1) (pulls_in_form name source max so.typed.1 way.0 w is)
-    way_in_form w (events.Ring name others rounds max) is may so v way = amid_in_form (times rounds (ring name others)) max so.typed.1 w is v way
+    way_in_form w (events.Goes name (exchanges.Cycle source max)) is may so v way = subst (IsWorldInForm P) (sym way.1) (pulls_in_form name source max so.typed.1 way.0 w is)
+    way_in_form w (events.Goes name (exchanges.Ring others rounds max)) is may so v way = amid_in_form (times rounds (ring name others)) max so.typed.1 w is v way
     way_in_form w e is may so v way = subst (IsWorldInForm P) (sym way) (event_in_form w is e may so.typed so.writes)
 
     lines_in_form : (es : List Event) (w : World) → IsWorldInForm P w → MayAllHappen w es → Each (IsLine P Q) es → IsWorldInForm P (after_lines w es)
@@ -174,7 +194,7 @@ any_write None = tt
 any_write (Some x) = tt
 
 any_said : (P : Update → Type 0) (e : Event) → SaysSo P (λ what. Unit {0}) e
-any_said P (events.Revive name guid image parent text) = λ i is. tt
+any_said P (events.Uses name (used.Revive guid parent text) image) = λ i is. tt
 any_said P e = any_write (write_of empty_world e)
 
 pub runs_are_formed : RunsAreFormed

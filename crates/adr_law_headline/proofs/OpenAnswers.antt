@@ -1,10 +1,18 @@
 -- In a sound world no answer to a line is that a controller is quarantined.
-use Rattle.std.proofs.Common.{◌≡◌, inl, inr, ℕ, List, [], ◌∷◌, ◌++◌, Bool, true, Option, Some, None, Result, Ok, Err, refl, sym, ap, subst, length, codes, if◌then◌else◌, ◌==◌}
+use Rattle.std.proofs.Common.{◌≡◌, inl, inr, ℕ, List, [], ◌∷◌, ◌++◌, Bool, true, Option, Some, None, Result, Ok, Err, refl, sym, ap, subst, length, if◌then◌else◌, ◌==◌}
 use Rattle.adr_call.specs.declared.answer.Answer.{Answer}
 use Rattle.adr_call.specs.declared.outcome.Outcome.{Outcome}
 use Rattle.adr_call.specs.declared.outcome.Outcome.TheVariants as outcomes
 use Rattle.adr_call.specs.declared.event.Event.{Event}
 use Rattle.adr_call.specs.declared.event.Event.TheVariants as events
+use Rattle.adr_call.specs.declared.event.Coming.{Coming}
+use Rattle.adr_call.specs.declared.event.Coming.TheVariants as comings
+use Rattle.adr_call.specs.declared.event.Use.{Use}
+use Rattle.adr_call.specs.declared.event.Use.TheVariants as used
+use Rattle.adr_call.specs.declared.event.Made.{Made}
+use Rattle.adr_call.specs.declared.event.Made.TheVariants as mades
+use Rattle.adr_call.specs.declared.event.Meeting.{Meeting}
+use Rattle.adr_call.specs.declared.event.Meeting.TheVariants as meetings
 use Rattle.adr_call.specs.declared.report.Report.{Report}
 use Rattle.adr_call.specs.declared.report.Report.TheVariants as reports
 use Rattle.adr_call.specs.declared.refusal.WriteRefusal.{WriteRefusal}
@@ -15,12 +23,11 @@ use Rattle.adr_call.specs.declared.refusal.TakeRefusal.TheVariants as takes
 use Rattle.adr_call.specs.declared.refusal.CollectRefusal.{CollectRefusal}
 use Rattle.adr_call.specs.declared.refusal.UpgradeRefusal.{UpgradeRefusal}
 use Rattle.adr_call.specs.declared.refusal.AdoptRefusal.{AdoptRefusal}
-use Rattle.adr_call.specs.Verbs.{verb_of_call, verb_of_report, word_of}
+use Rattle.adr_call.specs.Verbs.{verb_of_call, verb_of_coming, verb_of_made, verb_of_meeting, verb_of_report, verb_of_use, word_of}
 use Rattle.adr_disk.specs.declared.memory.Mishap.TheVariants.{Fails, Stops}
-use Rattle.adr_disk.specs.declared.memory.Plan.{Plan}
 use Rattle.adr_model.specs.Member.{Member, Each}
 use Rattle.adr_model.specs.Update.{Identifier}
-use Rattle.adr_model.specs.Store.{Normal, Store, State}
+use Rattle.adr_model.specs.Store.{Normal, State}
 use Rattle.adr_model.specs.Change.{Change}
 use Rattle.adr_model.specs.Lengths.{new_log, area_fits, change_fits}
 use Rattle.adr_model.specs.Serve.{Request, Reply, serve}
@@ -31,16 +38,16 @@ use Rattle.adr_model.specs.Collect.{collect, backup, adopt, quarantine}
 use Rattle.adr_model.specs.Upgrade.{upgrade}
 use Rattle.adr_model.specs.Refused.{serve_refused, take_refused}
 use Rattle.adr_model.specs.Replica.{Call, ToWrite, ToTake, ToCollect, ToUpgrade, ToQuarantine, Went, Passed, Met, Pending, Standing, Up, Down, Failed, Replica, on_new_disk, begun, outcome_after, commit_goes, start_goes}
-use Rattle.adr_model.specs.World.{Name, World, Snapshot, Gone, Sent, answer, stays, nothing, bound_at, replica_at, with_replica, of_made, where_up, of_controller, of_image, committed, commit, after_call, does, asks, after_serve, served, serves_request, after_take, delivered, delivers, backed_up, adopts, put_back, with_plan, stops, starts, reported}
-use Rattle.adr_model.specs.Cycles.{reply_limit, pull_version}
-use Rattle.adr_model.specs.Step.{gives, step, told}
+use Rattle.adr_model.specs.World.{Name, World, Snapshot, Gone, Sent, answer, stays, nothing, bound_at, replica_at, with_replica, of_made, where_up, of_controller, of_image, committed, commit, after_call, does, asks, after_serve, served, serves_request, after_take, delivered, delivers, backed_up, adopts, put_back, starts, reported}
+use Rattle.adr_model.specs.Cycles.{pull_version}
+use Rattle.adr_model.specs.Step.{gives, comes, uses, makes, meets, step}
 use Rattle.adr_model.specs.Sound.{IsSoundWorld}
 use Rattle.adr_model.specs.Convergence.{NoneRefused}
 use Rattle.adr_law_convergence.proofs.Found.{replica_found}
-use Rattle.adr_law_convergence.proofs.Reached.{within_case}
+use Rattle.adr_law_convergence.proofs.Reached.{within_case, image_case}
 use Rattle.adr_law_convergence.proofs.Refusals.{number, refused_by_number}
 use Rattle.adr_law_convergence.proofs.Binding.{IsRequest, IsReply}
-use Rattle.adr_law_convergence.proofs.Exchanges.{IsKeptByCalls, pull_so, pulls_so, ring_so}
+use Rattle.adr_law_convergence.proofs.Exchanges.{IsKeptByCalls, goes_so}
 use Rattle.adr_law_convergence.proofs.Stepping.{calls_sound}
 use Rattle.adr_law_headline.proofs.OpenRefusals.{IsOpen, not_quarantined, write_open, serve_open, take_open, collect_open, upgrade_open, adopt_open}
 
@@ -156,19 +163,17 @@ module _ (w : World) (sound : IsSoundWorld w) where
       by s reports.Directory = refl
       by s _ = refl
 
-  plans_openly : (name : Name) (plan : Plan) → Goes (of_made (stays w) (replica_at w name) (λ r. with_plan w r plan))
-  plans_openly name plan = made Goes w name (stays w) refl (λ r. with_plan w r plan) (λ r m. refl)
-
-  stops_openly : (name : Name) → Goes (of_made (stays w) (replica_at w name) (λ r. stops w r))
-  stops_openly name = made Goes w name (stays w) refl (λ r. stops w r) (λ r m. refl)
-
-  starts_openly : (name : Name) → Goes (of_made (stays w) (replica_at w name) (λ r. starts w r r.standing))
-  starts_openly name = made Goes w name (stays w) refl (λ r. starts w r r.standing) (λ r m. by r r.standing)
+  meets_openly : (name : Name) (what : Meeting) → Goes (of_made (stays w) (replica_at w name) (λ r. meets w r what))
+  meets_openly name what = made Goes w name (stays w) refl (λ r. meets w r what) (λ r m. met r what)
     where
-      by : (r : Replica) (standing : Standing) → Goes (starts w r standing)
-      by r Up = refl
-      by r Down = calls outcomes.Ok refl (start_goes r)
-      by r Failed = calls outcomes.Ok refl (start_goes r)
+      started : (r : Replica) (standing : Standing) → Goes (starts w r standing)
+      started r Up = refl
+      started r Down = calls outcomes.Ok refl (start_goes r)
+      started r Failed = calls outcomes.Ok refl (start_goes r)
+
+      met : (r : Replica) (what : Meeting) → Goes (meets w r what)
+      met r meetings.Start = started r r.standing
+      met r _ = refl
 
   copies_openly : (name : Name) → Sends {A = Snapshot} (of_made (nothing w) (replica_at w name) (λ r. (w, outcomes.Ok, Some (record { state = r.read; log = r.device.read_log }))))
   copies_openly name = made (Sends {A = Snapshot}) w name (nothing w) refl (λ r. (w, outcomes.Ok, Some (record { state = r.read; log = r.device.read_log }))) (λ r m. refl)
@@ -186,16 +191,12 @@ module _ (w : World) where
   adopts_openly placed name (Err x) = adopt_open x
   adopts_openly placed name (Ok s) = within_case Goes w (area_fits (new_log s) s.store) (record w { book = begun w.book s; replicas = placed (on_new_disk name s) }, outcomes.Ok) refl refl
 
-  of_image_openly : (o : Option Store) (act : Store → Gone) → ((i : Store) → Goes (act i)) → Goes (of_image w o act)
-  of_image_openly None act acts = refl
-  of_image_openly (Some i) act acts = acts i
-
   restores_openly : (name image : Name) (inv : Identifier) → Goes (of_made (stays w) (replica_at w name) (λ r. of_image w (bound_at w.images image) (λ i. adopts w (with_replica w.replicas) name (adopt i r.safe.dsa inv))))
   restores_openly name image inv = made Goes w name (stays w) refl (λ r. of_image w (bound_at w.images image) (λ i. adopts w (with_replica w.replicas) name (adopt i r.safe.dsa inv)))
-      (λ r m. of_image_openly (bound_at w.images image) (λ i. adopts w (with_replica w.replicas) name (adopt i r.safe.dsa inv)) (λ i. adopts_openly (with_replica w.replicas) name (adopt i r.safe.dsa inv)))
+      (λ r m. image_case Goes w (bound_at w.images image) (λ i. adopts w (with_replica w.replicas) name (adopt i r.safe.dsa inv)) refl (λ i e. adopts_openly (with_replica w.replicas) name (adopt i r.safe.dsa inv)))
 
   installs_openly : (name image : Name) (dsa inv : Identifier) → Goes (of_image w (bound_at w.images image) (λ i. adopts w (λ r. w.replicas ++ r ∷ []) name (adopt i dsa inv)))
-  installs_openly name image dsa inv = of_image_openly (bound_at w.images image) (λ i. adopts w (λ r. w.replicas ++ r ∷ []) name (adopt i dsa inv)) (λ i. adopts_openly (λ r. w.replicas ++ r ∷ []) name (adopt i dsa inv))
+  installs_openly name image dsa inv = image_case Goes w (bound_at w.images image) (λ i. adopts w (λ r. w.replicas ++ r ∷ []) name (adopt i dsa inv)) refl (λ i e. adopts_openly (λ r. w.replicas ++ r ∷ []) name (adopt i dsa inv))
 
 -- ---- lines
 
@@ -210,31 +211,31 @@ one verb name o is a (inl e) = subst (λ (b : Answer). IsOpen b.outcome) (sym e)
 one verb name o is a (inr m) = absurd m
 
 module _ (w : World) (sound : IsSoundWorld w) where
-  revives_openly : (name : Name) (guid : Identifier) (image : Name) (parent : Identifier) (text : List ℕ) (o : Option Store) → AreOpen (told (codes "revive") name (of_image w o (λ i. does w name (ToWrite (Revive i guid parent text) w.time)))).1
-  revives_openly name guid image parent text None = one (codes "revive") name outcomes.Absent refl
-  revives_openly name guid image parent text (Some i) = one (codes "revive") name _ (does_openly w sound name (ToWrite (Revive i guid parent text) w.time))
+  comes_openly : (name : Name) (inv : Identifier) (how : Coming) → Goes (comes w name inv how)
+  comes_openly name inv (comings.Fresh dsa) = refl
+  comes_openly name inv (comings.Installed dsa image) = installs_openly (gives w (dsa ∷ []) (inv ∷ [])) name image dsa inv
+  comes_openly name inv (comings.Restored image) = restores_openly (gives w [] (inv ∷ [])) name image inv
+
+  uses_openly : (name : Name) (what : Use) (bind : Name) → Goes (uses w name what bind)
+  uses_openly name used.Deliver bind = delivers_openly w sound name (bound_at w.replies bind)
+  uses_openly name (used.Revive guid parent text) bind = image_case Goes w (bound_at w.images bind) (λ i. does w name (ToWrite (Revive i guid parent text) w.time)) refl (λ i e. does_openly w sound name (ToWrite (Revive i guid parent text) w.time))
+  uses_openly name used.Rollback bind = rolls_back_openly w sound name (bound_at w.snapshots bind)
+
+  makes_openly : (name : Name) (what : Made) (bind : Name) → Goes (makes w name what bind)
+  makes_openly name (mades.Ask partner max version) bind = asks_openly w sound name partner max version
+  makes_openly name (mades.Serve request) bind = serves_openly w sound name (bound_at w.requests request)
+  makes_openly name mades.Backup bind = backs_up_openly w sound name
+  makes_openly name mades.Snapshot bind = copies_openly w sound name
 
   line_open : (e : Event) → AreOpen (step w e).1
-  line_open (events.Controller name dsa inv) = one (codes "controller") name outcomes.Ok refl
   line_open (events.Time now) = λ a m. absurd m
+  line_open (events.Comes name inv how) = one (word_of (verb_of_coming how)) name _ (comes_openly name inv how)
   line_open (events.Calls name what) = one (word_of (verb_of_call what)) name _ (does_openly w sound name (call_meant what w.time))
-  line_open (events.Ask name partner max version bind) = one (codes "ask") name (asks w name partner max version).1 (asks_openly w sound name partner max version)
-  line_open (events.Serve name request bind) = one (codes "serve") name (serves_request w name (bound_at w.requests request)).1 (serves_openly w sound name (bound_at w.requests request))
-  line_open (events.Deliver name reply) = one (codes "deliver") name (delivers w name (bound_at w.replies reply)).1 (delivers_openly w sound name (bound_at w.replies reply))
-  line_open (events.Pull name source max) = (pull_so IsSoundWorld IsRequest IsReply IsOpen open_calls name source max w sound).1
-  line_open (events.Cycle name source max) = (pulls_so IsSoundWorld IsRequest IsReply IsOpen open_calls name source max reply_limit w sound).1
-  line_open (events.Ring name others rounds max) = (ring_so IsSoundWorld IsRequest IsReply IsOpen open_calls (λ n d v. refl) name others rounds max w sound).1
-  line_open (events.Revive name guid image parent text) = revives_openly name guid image parent text (bound_at w.images image)
-  line_open (events.Backup name bind) = one (codes "backup") name _ (backs_up_openly w sound name)
-  line_open (events.Restore name image inv) = one (codes "restore") name _ (restores_openly (gives w [] (inv ∷ [])) name image inv)
-  line_open (events.Install name dsa image inv) = one (codes "install") name _ (installs_openly (gives w (dsa ∷ []) (inv ∷ [])) name image dsa inv)
-  line_open (events.Snapshot name bind) = one (codes "snapshot") name _ (copies_openly w sound name)
-  line_open (events.Rollback name snapshot) = one (codes "rollback") name _ (rolls_back_openly w sound name (bound_at w.snapshots snapshot))
-  line_open (events.StopAfter name calls how) = one (codes "stop") name _ (plans_openly w sound name (record { calls = calls; mishap = Stops how }))
-  line_open (events.Fail name calls) = one (codes "fail") name _ (plans_openly w sound name (record { calls = calls; mishap = Fails }))
-  line_open (events.Stop name) = one (codes "stop") name _ (stops_openly w sound name)
-  line_open (events.Start name) = one (codes "start") name _ (starts_openly w sound name)
-  line_open (events.Report name what) = one (word_of (verb_of_report what)) name _ (reports_openly w sound name what)
+  line_open (events.Uses name what bind) = one (word_of (verb_of_use what)) name _ (uses_openly name what bind)
+  line_open (events.Binds name what bind) = one (word_of (verb_of_made what)) name _ (makes_openly name what bind)
+  line_open (events.Asks name what) = one (word_of (verb_of_report what)) name _ (reports_openly w sound name what)
+  line_open (events.Goes name what) = (goes_so IsSoundWorld IsRequest IsReply IsOpen open_calls (λ n d v. refl) name what w sound).1
+  line_open (events.Meets name what) = one (word_of (verb_of_meeting what)) name _ (meets_openly w sound name what)
 
 -- whatever the line, also one that may not happen
 pub none_is_quarantined : (w : World) (e : Event) → IsSoundWorld w → NoneRefused 23 (step w e).1

@@ -2,6 +2,7 @@
 use Rattle.std.proofs.Common.{◌≡◌, ⊎_elim, ℕ, ◌+◌, [], ◌∷◌, Bool, true, false, refl, subst, if◌then◌else◌}
 use Rattle.adr_call.specs.declared.event.Event.{Event}
 use Rattle.adr_call.specs.declared.event.Event.TheVariants as events
+use Rattle.adr_call.specs.declared.event.Use.TheVariants as uses
 use Rattle.adr_model.specs.Member.{Each}
 use Rattle.adr_model.specs.Store.{State, updates_of}
 use Rattle.adr_model.specs.Change.{updates_written}
@@ -57,7 +58,7 @@ kept_whole s (RemoveLink from attr to) now whole given = one_whole s (RemoveLink
 
 -- what a line says is whole
 says_whole : (e : Event) → IsWholeEvent e → SaysSo IsWholeRow IsWholeWrite e
-says_whole (events.Revive name guid image parent text) so = λ i is. (is.rows, so.0, so.1)
+says_whole (events.Uses name (uses.Revive guid parent text) image) so = λ i is. (is.rows, so.0, so.1)
 says_whole e so = so
 
 pub runs_are_printable : RunsArePrintable

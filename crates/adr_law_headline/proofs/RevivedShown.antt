@@ -1,8 +1,9 @@
 -- What a controller shows behind a revival that was answered by its USN.
-use Rattle.std.proofs.Common.{◌≡◌, ◌≢◌, inl, inr, ℕ, List, [], ◌∷◌, Bool, cond, Option, Some, None, Result, Ok, Err, refl, sym, ap, ◌∙◌, subst, fold}
+use Rattle.std.proofs.Common.{◌≡◌, ◌≢◌, inl, inr, ℕ, List, Bool, cond, Option, Some, None, Result, Ok, Err, refl, sym, ap, ◌∙◌, subst, fold}
 use Rattle.adr_call.specs.declared.answer.Answer.{Answer}
 use Rattle.adr_call.specs.declared.event.Event.{Event}
 use Rattle.adr_call.specs.declared.event.Event.TheVariants as events
+use Rattle.adr_call.specs.declared.event.Use.TheVariants as uses
 use Rattle.adr_call.specs.declared.outcome.Outcome.{Outcome}
 use Rattle.adr_call.specs.declared.outcome.Outcome.TheVariants as outcomes
 use Rattle.adr_call.specs.declared.refusal.Table.TheVariants.{Log}
@@ -11,19 +12,17 @@ use Rattle.adr_disk.specs.declared.memory.Mishap.TheVariants.{Fails, Stops}
 use Rattle.adr_model.specs.Member.{Member, Each}
 use Rattle.adr_model.specs.Update.{Identifier}
 use Rattle.adr_model.specs.Store.{Store}
-use Rattle.adr_model.specs.Change.{Change, after}
+use Rattle.adr_model.specs.Change.{Change}
 use Rattle.adr_model.specs.Formed.{IsFormed, IsFormedStore}
 use Rattle.adr_model.specs.Lengths.{log_limit, change_fits}
 use Rattle.adr_model.specs.Refused.{write_refused, full}
 use Rattle.adr_model.specs.Client.{done, written}
-use Rattle.adr_model.specs.Replica.{Pending, ToWrite, Up, Failed, Replica, moved, Went, Passed, Met, moves_of_commit, standing_after, outcome_after, commit_goes, device_after_commit}
-use Rattle.adr_model.specs.World.{Name, World, Gone, stays, bound_at, with_replica, of_image, committed, commit, after_call, does}
+use Rattle.adr_model.specs.Replica.{Pending, ToWrite, Failed, Replica, moved, Went, Passed, Met, moves_of_commit, standing_after, outcome_after, commit_goes, device_after_commit}
+use Rattle.adr_model.specs.World.{Name, World, Gone, stays, bound_at, with_replica, of_image, committed, after_call, does}
 use Rattle.adr_model.specs.Write.{Write, Revive, write}
-use Rattle.adr_model.specs.Step.{step}
 use Rattle.adr_law_convergence.proofs.Found.{bound_member, same_name_tests, still_there}
 use Rattle.adr_law_convergence.proofs.Refusals.{is_plain, IsPlain, write_refused_plainly}
 use Rattle.adr_law_convergence.proofs.Reached.{plain_reached, within_case}
-use Rattle.adr_law_revived.specs.Revived.{IsRevived}
 use Rattle.adr_law_revived.proofs.Whole.{revived_shows}
 use Rattle.adr_law_headline.specs.Revived.{ShowsAgain, RevivesShow}
 
@@ -90,11 +89,11 @@ module _ (w : World) (states : Each (λ r. IsFormed r.safe) w.replicas) (images 
   of_bound None e = plainly outcomes.Absent refl
   of_bound (Some i) e = revives i e
 
-  pub revival_shows : RevivesShow w (events.Revive name guid image parent text)
+  pub revival_shows : RevivesShow w (events.Uses name (uses.Revive guid parent text) image)
   revival_shows usn a (inl is) said = of_bound (bound_at w.images image) refl usn (ap (λ (b : Answer). b.outcome) (sym is) ∙ said)
   revival_shows usn a (inr none) said = absurd none
 
 -- in a world whose states and images are formed
 pub revivals_show : (w : World) (e : Event) → Each (λ r. IsFormed r.safe) w.replicas → Each (λ (i : Name × Store). IsFormedStore i.1) w.images → RevivesShow w e
-revivals_show w (events.Revive name guid image parent text) states images = revival_shows w states images name guid image parent text
+revivals_show w (events.Uses name (uses.Revive guid parent text) image) states images = revival_shows w states images name guid image parent text
 revivals_show w _ states images = tt

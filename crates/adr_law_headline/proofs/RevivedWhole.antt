@@ -11,11 +11,11 @@ use Rattle.adr_values.specs.Table.{kind_at}
 use Rattle.adr_values.specs.Schemas.{newest}
 use Rattle.adr_token.specs.Laws.{IsIdentifier}
 use Rattle.adr_model.specs.Member.{Member, Each}
-use Rattle.adr_model.specs.Update.{Identifier, LinkOf, Update, ends, same_identifier}
+use Rattle.adr_model.specs.Update.{Identifier, LinkOf, ends, same_identifier}
 use Rattle.adr_model.specs.Store.{Store, State, updates_of}
 use Rattle.adr_model.specs.Place.{Node}
 use Rattle.adr_model.specs.Change.{Written}
-use Rattle.adr_model.specs.Write.{Revive, nodes_held, new_object, entry_in, other_end, link_at, is_link_of, link_revived, links_revived, link_row, new_links, rows_written, more_written, items_written}
+use Rattle.adr_model.specs.Write.{Revive, nodes_held, new_object, entry_in, other_end, link_at, is_link_of, link_revived, links_revived, link_row, new_links, items_written}
 use Rattle.adr_model.proofs.Members.{found_member, flat_member, of_filter_map}
 use Rattle.adr_law_knowledge.proofs.Lists.{of_sorted}
 use Rattle.adr_law_calls.proofs.Reviving.{end_told, link_is}

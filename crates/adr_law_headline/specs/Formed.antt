@@ -1,7 +1,10 @@
 -- Every state of every run is what a log may lead to, whatever was taken, and also behind a rollback.
-use Rattle.std.specs.Prelude.{List}
+use Rattle.std.specs.Prelude.{ℕ, List}
 use Rattle.adr_call.specs.declared.event.Event.{Event}
 use Rattle.adr_call.specs.declared.event.Event.TheVariants as events
+use Rattle.adr_call.specs.declared.event.Made.TheVariants as mades
+use Rattle.adr_call.specs.declared.event.Exchange.{Exchange}
+use Rattle.adr_call.specs.declared.event.Exchange.TheVariants as exchanges
 use Rattle.adr_wire.specs.Ranges.{IsU32, IsU64}
 use Rattle.adr_records.specs.Logged.{IsLogged}
 use Rattle.adr_model.specs.Member.{Each}
@@ -10,13 +13,17 @@ use Rattle.adr_model.specs.Convergence.{MayAllHappen}
 use Rattle.adr_law_recorded.specs.Typed.{IsTyped}
 use Rattle.adr_law_headline.specs.Throughout.{HoldsAlways}
 
+-- how many items controllers that pull ask for
+abbrev pub most_pulled : Exchange → ℕ
+most_pulled (exchanges.Pull source max) = max
+most_pulled (exchanges.Cycle source max) = max
+most_pulled (exchanges.Ring others rounds max) = max
+
 -- the numbers of an event that come into states and messages are those of its types
 abbrev pub HasTypedNumbers : Event → Type 0
 HasTypedNumbers (events.Time now) = IsU64 now
-HasTypedNumbers (events.Ask name partner max version bind) = IsU32 max
-HasTypedNumbers (events.Pull name source max) = IsU32 max
-HasTypedNumbers (events.Cycle name source max) = IsU32 max
-HasTypedNumbers (events.Ring name others rounds max) = IsU32 max
+HasTypedNumbers (events.Binds name (mades.Ask partner max version) bind) = IsU32 max
+HasTypedNumbers (events.Goes name what) = IsU32 (most_pulled what)
 HasTypedNumbers e = Unit {0}
 
 -- what the types of each of the events say

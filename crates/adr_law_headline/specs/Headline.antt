@@ -24,7 +24,7 @@ use Rattle.adr_law_headline.specs.Refused.{FindsNoDamage, FindsNobodyTooOld, Lea
 -- a controller that is up answers a `show` by the directory of what it has in view, and nothing changes
 abbrev pub AnswerByTheirView : World → Type 0
 AnswerByTheirView w =
-    Each (λ r. r.standing ≡ Up → step w (events.Report r.name Directory) ≡ (w, answer (codes "show") r.name (outcomes.Show (directory (in_view w r.safe))) ∷ [])) w.replicas
+    Each (λ r. r.standing ≡ Up → step w (events.Asks r.name Directory) ≡ (w, answer (codes "show") r.name (outcomes.Show (directory (in_view w r.safe))) ∷ [])) w.replicas
 
 -- each time beside a controller's vector was told: a last reply of that incarnation was made then, and the controller covers what that one had
 abbrev pub TimesWereTold : World → Type 0

@@ -8,6 +8,7 @@ use Rattle.adr_values.specs.declared.content.Content.TheVariants.{Class, Name, D
 use Rattle.adr_call.specs.declared.directory.Entry.{Entry}
 use Rattle.adr_call.specs.declared.event.Event.{Event}
 use Rattle.adr_call.specs.declared.event.Event.TheVariants as events
+use Rattle.adr_call.specs.declared.event.Use.TheVariants as uses
 use Rattle.adr_token.specs.Laws.{IsIdentifier}
 use Rattle.adr_model.specs.Member.{Each}
 use Rattle.adr_model.specs.Update.{Said, Holds, IsPresent, Update, ends}
@@ -58,7 +59,7 @@ WritesSo Q e = IfSome (write_of empty_world e) (λ (w : ClientWrite). Q w.what)
 
 -- what an event says of what is written is whole; a revival's image is none of the event's
 abbrev pub IsWholeEvent : Event → Type 0
-IsWholeEvent (events.Revive name guid image parent text) = IsIdentifier guid × IsIdentifier parent
+IsWholeEvent (events.Uses name (uses.Revive guid parent text) image) = IsIdentifier guid × IsIdentifier parent
 IsWholeEvent e = WritesSo IsWholeWrite e
 
 -- each of the events is so

@@ -2,6 +2,7 @@
 use Rattle.std.specs.Prelude.{◌≡◌, ℕ, List, Some}
 use Rattle.adr_call.specs.declared.event.Event.{Event}
 use Rattle.adr_call.specs.declared.event.Event.TheVariants as events
+use Rattle.adr_call.specs.declared.event.Use.TheVariants as uses
 use Rattle.adr_call.specs.declared.outcome.Outcome.TheVariants as outcomes
 use Rattle.adr_model.specs.Member.{Member, Each}
 use Rattle.adr_model.specs.Store.{Store}
@@ -26,6 +27,7 @@ pub record ShowsAgain (w behind : World) (name : Name) (guid : Identifier) (imag
 
 -- a revival that is answered by a USN is so
 abbrev pub RevivesShow : World → Event → Type 0
-RevivesShow w (events.Revive name guid image parent text) =
-    (usn : ℕ) → Each (λ a. a.outcome ≡ outcomes.Usn usn → ShowsAgain w (step w (events.Revive name guid image parent text)).0 name guid image parent text) (step w (events.Revive name guid image parent text)).1
+RevivesShow w (events.Uses name (uses.Revive guid parent text) image) =
+    let revived = step w (events.Uses name (uses.Revive guid parent text) image) in
+    (usn : ℕ) → Each (λ a. a.outcome ≡ outcomes.Usn usn → ShowsAgain w revived.0 name guid image parent text) revived.1
 RevivesShow w e = Unit {0}

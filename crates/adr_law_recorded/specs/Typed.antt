@@ -10,6 +10,9 @@ use Rattle.adr_call.specs.declared.call.Call.{Call}
 use Rattle.adr_call.specs.declared.call.Call.TheVariants as calls
 use Rattle.adr_call.specs.declared.event.Event.{Event}
 use Rattle.adr_call.specs.declared.event.Event.TheVariants as events
+use Rattle.adr_call.specs.declared.event.Coming.TheVariants as comings
+use Rattle.adr_call.specs.declared.event.Use.TheVariants as used
+use Rattle.adr_call.specs.declared.event.Made.TheVariants as mades
 use Rattle.adr_wire.specs.Headed.{is_version}
 use Rattle.adr_wire.specs.Ranges.{IsId}
 use Rattle.adr_model.specs.Member.{Each}
@@ -42,12 +45,12 @@ IsTypedCall _ = Unit {0}
 
 -- an event whose write is so, or which gives identifiers that are; the image of a revival isn't the event's
 abbrev pub IsTyped : Event → Type 0
-IsTyped (events.Controller name dsa inv) = IsId dsa × IsId inv
-IsTyped (events.Restore name image inv) = IsId inv
-IsTyped (events.Install name dsa image inv) = IsId dsa × IsId inv
-IsTyped (events.Revive name guid image parent text) = IsId guid × IsId parent × (is_utf8 text ≡ true)
+IsTyped (events.Comes name inv (comings.Fresh dsa)) = IsId dsa × IsId inv
+IsTyped (events.Comes name inv (comings.Restored image)) = IsId inv
+IsTyped (events.Comes name inv (comings.Installed dsa image)) = IsId dsa × IsId inv
+IsTyped (events.Uses name (used.Revive guid parent text) image) = IsId guid × IsId parent × (is_utf8 text ≡ true)
 IsTyped (events.Calls name what) = IsTypedCall what
-IsTyped (events.Ask name partner max version bind) = is_version version ≡ true
+IsTyped (events.Binds name (mades.Ask partner max version) bind) = is_version version ≡ true
 IsTyped e = Unit {0}
 
 abbrev pub AreTyped : List Event → Type 0

@@ -3,6 +3,8 @@ use Rattle.std.proofs.Common.{◌≡◌, ◌≢◌, ℕ, List, [], ◌∷◌, �
 use Rattle.adr_disk.specs.declared.memory.Crash.TheVariants.{Kept, Lost, Torn}
 use Rattle.adr_call.specs.declared.outcome.Outcome.{Outcome}
 use Rattle.adr_call.specs.declared.outcome.Outcome.TheVariants as outcomes
+use Rattle.adr_call.specs.declared.event.Meeting.{Meeting}
+use Rattle.adr_call.specs.declared.event.Meeting.TheVariants as meetings
 use Rattle.adr_call.specs.declared.refusal.Table.TheVariants.{Log}
 use Rattle.adr_call.specs.declared.refusal.ServeRefusal.{ServeRefusal}
 use Rattle.adr_call.specs.declared.refusal.ServeRefusal.TheVariants as serves
@@ -23,6 +25,7 @@ use Rattle.adr_disk.specs.declared.memory.Plan.{Plan}
 use Rattle.adr_model.specs.Client.{Done, changed_over, collected, done, written}
 use Rattle.adr_model.specs.Replica.{Call, Pending, ToWrite, ToTake, ToCollect, ToUpgrade, ToQuarantine, Standing, Up, Down, Failed, Replica, on_disk, on_new_disk, Book, begun, Move, Begin, Settle, Forget, moved, Went, Passed, Met, moves_of_commit, moves_of_start, standing_after, outcome_after, Device, commit_goes, start_goes, device_after_commit, device_after_start, device_settled}
 use Rattle.adr_model.specs.World.{Name, World, Snapshot, Gone, Sent, stays, nothing, replica_at, with_replica, of_made, where_up, of_controller, within_log, committed, commit, after_call, does, asks, after_serve, served, serves_request, after_take, delivered, delivers, backed_up, begins, adopts, of_image, put_back, with_plan, stops, started, starts}
+use Rattle.adr_model.specs.Step.{meets}
 use Rattle.adr_law_rollback.specs.ShutOff.{RefusesAll, RestsAs, RestsIn, is_done}
 use Rattle.adr_law_rollback.proofs.Placing.{name_case, FoundAmong, found_named, replaced, spared, first_stays, rests_too}
 use Rattle.adr_law_rollback.proofs.Refusing.{refuses_all}
@@ -206,6 +209,12 @@ module _ (name : Name) (s : State) (closed : s.mode ≡ Quarantined) where
       started_or_up Down = begun_again
       started_or_up Failed = begun_again
 
+      met : (what : Meeting) → Holds n (meets w r what)
+      met meetings.Stop = stopped
+      met meetings.Start = started_or_up r.standing
+      met (meetings.StopAfter calls how) = planned (record { calls = calls; mishap = Stops how })
+      met (meetings.Fail calls) = planned (record { calls = calls; mishap = Fails })
+
     module _ (n : Name) where
       plain : {A : Type 0} (Q : A → Type 0) (other : Outcome → A) → ((o : Outcome) → is_done o ≡ false → Q (other o)) → (act : Replica → A)
           → ((r : Replica) → replica_at w n ≡ Some r → Q (act r)) → Q (of_controller w n other act)
@@ -243,14 +252,8 @@ module _ (name : Name) (s : State) (closed : s.mode ≡ Quarantined) where
       pub copies_hold : HoldsSent n copied
       copies_hold = made (HoldsSent n) w n (nothing w) (i, λ e. refl) (λ r. (w, outcomes.Ok, Some (record { state = r.read; log = r.device.read_log }))) (λ r found. (i, λ e. refl))
 
-      pub plans_hold : (plan : Plan) → Holds n (of_made (stays w) (replica_at w n) (λ r. with_plan w r plan))
-      plans_hold plan = made (Holds n) w n (stays w) (i, λ e. refl) (λ r. with_plan w r plan) (λ r found. planned n r found plan)
-
-      pub stops_hold : Holds n (of_made (stays w) (replica_at w n) (λ r. stops w r))
-      stops_hold = made (Holds n) w n (stays w) (i, λ e. refl) (λ r. stops w r) (λ r found. stopped n r found)
-
-      pub starts_hold : Holds n (of_made (stays w) (replica_at w n) (λ r. starts w r r.standing))
-      starts_hold = made (Holds n) w n (stays w) (i, λ e. refl) (λ r. starts w r r.standing) (λ r found. started_or_up n r found r.standing)
+      pub meets_hold : (what : Meeting) → Holds n (of_made (stays w) (replica_at w n) (λ r. meets w r what))
+      meets_hold what = made (Holds n) w n (stays w) (i, λ e. refl) (λ r. meets w r what) (λ r found. met n r found what)
 
       pub reports_hold : (what : Replica → Outcome) → ((r : Replica) → is_done (what r) ≡ false) → Holds n (of_controller w n (stays w) (λ r. (w, what r)))
       reports_hold what is = plain (Holds n) (stays w) stay (λ r. (w, what r)) (λ r found. (i, λ e. is r))

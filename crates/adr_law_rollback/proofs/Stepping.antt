@@ -1,26 +1,32 @@
 -- Behind every line that puts nothing back on its disk a controller that is shut off is so still, and has done nothing.
-use Rattle.std.proofs.Common.{◌≡◌, inl, inr, ℕ, List, [], ◌∷◌, false, Option, Some, None, refl, codes}
+use Rattle.std.proofs.Common.{◌≡◌, inl, inr, ℕ, List, [], ◌∷◌, false, Option, Some, None, refl}
 use Rattle.adr_call.specs.declared.answer.Answer.{Answer}
-use Rattle.adr_call.specs.declared.outcome.Outcome.{Outcome}
-use Rattle.adr_call.specs.declared.outcome.Outcome.TheVariants as outcomes
 use Rattle.adr_call.specs.declared.report.Report.{Report}
 use Rattle.adr_call.specs.declared.report.Report.TheVariants as reports
 use Rattle.adr_call.specs.declared.event.Event.{Event}
 use Rattle.adr_call.specs.declared.event.Event.TheVariants as events
+use Rattle.adr_call.specs.declared.event.Coming.{Coming}
+use Rattle.adr_call.specs.declared.event.Coming.TheVariants as comings
+use Rattle.adr_call.specs.declared.event.Use.{Use}
+use Rattle.adr_call.specs.declared.event.Use.TheVariants as used
+use Rattle.adr_call.specs.declared.event.Made.{Made}
+use Rattle.adr_call.specs.declared.event.Made.TheVariants as mades
+use Rattle.adr_call.specs.declared.event.Exchange.{Exchange}
+use Rattle.adr_call.specs.declared.event.Exchange.TheVariants as exchanges
 use Rattle.adr_model.specs.Member.{Each}
+use Rattle.adr_model.specs.Update.{Identifier}
 use Rattle.adr_model.specs.Store.{Quarantined, Store, State, empty_state}
 use Rattle.adr_model.specs.Client.{call_meant}
 use Rattle.adr_model.specs.Write.{Revive}
 use Rattle.adr_model.specs.Collect.{backup}
-use Rattle.adr_disk.specs.declared.memory.Mishap.TheVariants.{Fails, Stops}
 use Rattle.adr_model.specs.Replica.{ToWrite, on_new_disk}
-use Rattle.adr_model.specs.World.{Name, World, Sent, answer, nothing, bound, bound_at, asks, serves_request, of_controller, of_image, does, backed_up, reported}
+use Rattle.adr_model.specs.World.{Name, World, Gone, Sent, stays, nothing, bound, bound_at, replica_at, asks, serves_request, of_made, of_controller, of_image, does, backed_up, reported}
 use Rattle.adr_model.specs.Cycles.{reply_limit}
-use Rattle.adr_model.specs.Step.{gives, told, told_bound, step, after_lines, answers}
+use Rattle.adr_model.specs.Step.{gives, comes, uses, made_bound, makes, goes, meets, told, step, after_lines, answers}
 use Rattle.adr_model.proofs.Ringing.{rings_so}
-use Rattle.adr_law_rollback.specs.ShutOff.{RestsIn, is_done, DoesNothing, Spares, QuarantineHolds, QuarantineHoldsThroughout}
+use Rattle.adr_law_rollback.specs.ShutOff.{RestsIn, is_done, Spares, QuarantineHolds, QuarantineHoldsThroughout}
 use Rattle.adr_law_rollback.proofs.Placing.{first_stays}
-use Rattle.adr_law_rollback.proofs.Calls.{HoldsSent, calls_hold, delivers_hold, serves_hold, asks_hold, backs_up_hold, copied, copies_hold, plans_hold, stops_hold, starts_hold, reports_hold, installs_hold, restores_hold, rollbacks_hold}
+use Rattle.adr_law_rollback.proofs.Calls.{Holds, HoldsSent, calls_hold, delivers_hold, serves_hold, asks_hold, backs_up_hold, copied, copies_hold, meets_hold, reports_hold, installs_hold, restores_hold, rollbacks_hold}
 use Rattle.adr_law_rollback.proofs.Cycling.{silent, one_more, both_silent, Still, pull_still, pulls_still}
 
 -- a report says nothing of the kind
@@ -32,49 +38,58 @@ module _ (name : Name) (s : State) (closed : s.mode ≡ Quarantined) where
   abbrev Behind : World × List Answer → Type 0
   Behind t = Still name s closed t.0 t.1
 
-  one : (verb : List ℕ) (n : Name) (o : Outcome) → (n ≡ name → is_done o ≡ false) → DoesNothing name (answer verb n o ∷ [])
-  one verb n o is = one_more name verb n o [] is (silent name)
+  -- a line with one answer
+  told_once : (verb : List ℕ) (n : Name) (g : Gone) → Holds name s closed n g → Behind (told verb n g)
+  told_once verb n g is = (is.0, one_more name verb n g.1 [] is.1 (silent name))
 
-  one_bound : {A : Type 0} (verb : List ℕ) (n : Name) (t : Sent A) (binds : World → Option A → World)
-      → ((v : World) (x : Option A) → RestsIn s v name → RestsIn s (binds v x) name) → HoldsSent name s closed n t → Behind (told_bound verb n t binds)
-  one_bound verb n t binds still is = (still t.0 t.2 is.0, one verb n t.1 is.1)
+  bound_holds : {A : Type 0} (n : Name) (t : Sent A) (binds : World → Option A → World)
+      → ((v : World) (x : Option A) → RestsIn s v name → RestsIn s (binds v x) name) → HoldsSent name s closed n t → Holds name s closed n (made_bound t binds)
+  bound_holds n t binds still is = (still t.0 t.2 is.0, is.1)
 
   module _ (w : World) (i : RestsIn s w name) where
-    pub step_still : (e : Event) → Spares name e → Behind (step w e)
-    step_still (events.Controller n dsa inv) spares = ((i.0, first_stays w.replicas (on_new_disk n (empty_state dsa inv) ∷ []) i.0 name i.1, i.2), one _ n outcomes.Ok (λ e. refl))
-    step_still (events.Time now) spares = (i, silent name)
-    step_still (events.Calls n what) spares = let t = calls_hold name s closed w i n (call_meant what w.time) in (t.0, one _ n _ t.1)
-    step_still (events.Ask n partner max version bind) spares =
-        one_bound _ n (asks w n partner max version) (λ v q. record v { requests = bound v.requests bind q }) (λ v q j. j) (asks_hold name s closed w i n partner max version)
-    step_still (events.Serve n request bind) spares =
-        one_bound _ n (serves_request w n (bound_at w.requests request)) (λ v r. record v { replies = bound v.replies bind r }) (λ v r j. j)
+    comes_holds : (n : Name) (inv : Identifier) (how : Coming) → Spares name (events.Comes n inv how) → Holds name s closed n (comes w n inv how)
+    comes_holds n inv (comings.Fresh dsa) spares = ((i.0, first_stays w.replicas (on_new_disk n (empty_state dsa inv) ∷ []) i.0 name i.1, i.2), λ e. refl)
+    comes_holds n inv (comings.Installed dsa image) spares = installs_hold name s closed (gives w (dsa ∷ []) (inv ∷ [])) i n (bound_at w.images image) dsa inv
+    comes_holds n inv (comings.Restored image) spares = restores_hold name s closed (gives w [] (inv ∷ [])) i n spares (bound_at w.images image) inv
+
+    uses_hold : (n bind : Name) (what : Use) → Spares name (events.Uses n what bind) → Holds name s closed n (uses w n what bind)
+    uses_hold n bind used.Deliver spares = delivers_hold name s closed w i n (bound_at w.replies bind)
+    uses_hold n bind (used.Revive guid parent text) spares = by (bound_at w.images bind)
+      where
+        by : (o : Option Store) → Holds name s closed n (of_image w o (λ image. does w n (ToWrite (Revive image guid parent text) w.time)))
+        by None = (i, λ e. refl)
+        by (Some image) = calls_hold name s closed w i n (ToWrite (Revive image guid parent text) w.time)
+    uses_hold n bind used.Rollback spares = rollbacks_hold name s closed w i n spares (bound_at w.snapshots bind)
+
+    makes_hold : (n bind : Name) (what : Made) → Holds name s closed n (makes w n what bind)
+    makes_hold n bind (mades.Ask partner max version) =
+        bound_holds n (asks w n partner max version) (λ v q. record v { requests = bound v.requests bind q }) (λ v q j. j) (asks_hold name s closed w i n partner max version)
+    makes_hold n bind (mades.Serve request) =
+        bound_holds n (serves_request w n (bound_at w.requests request)) (λ v r. record v { replies = bound v.replies bind r }) (λ v r j. j)
         (serves_hold name s closed w i n (bound_at w.requests request))
-    step_still (events.Deliver n reply) spares = let t = delivers_hold name s closed w i n (bound_at w.replies reply) in (t.0, one _ n _ t.1)
-    step_still (events.Pull n source max) spares = pull_still name s closed n source max w i
-    step_still (events.Cycle n source max) spares = pulls_still name s closed n source max reply_limit w i
-    step_still (events.Ring n others rounds max) spares =
+    makes_hold n bind mades.Backup =
+        bound_holds n (of_controller w n (nothing w) (λ r. backed_up w (backup r.safe))) (λ v image. record v { images = bound v.images bind image }) (λ v image j. j)
+        (backs_up_hold name s closed w i n)
+    makes_hold n bind mades.Snapshot =
+        bound_holds n (copied name s closed w i n) (λ v t. record v { snapshots = bound v.snapshots bind t }) (λ v t j. j) (copies_hold name s closed w i n)
+
+    goes_still : (n : Name) (what : Exchange) → Behind (goes w n what)
+    goes_still n (exchanges.Pull source max) = pull_still name s closed n source max w i
+    goes_still n (exchanges.Cycle source max) = pulls_still name s closed n source max reply_limit w i
+    goes_still n (exchanges.Ring others rounds max) =
         rings_so (λ v. RestsIn s v name) (λ (a : Answer). a.name ≡ name → is_done a.outcome ≡ false) (λ v dest source most j. pulls_still name s closed dest source most reply_limit v j)
         n others rounds max (λ v d e own. refl) w i
-    step_still (events.Revive n guid image parent text) spares = by (bound_at w.images image)
-      where
-        by : (o : Option Store) → Behind (told (codes "revive") n (of_image w o (λ i. does w n (ToWrite (Revive i guid parent text) w.time))))
-        by None = (i, one _ n outcomes.Absent (λ e. refl))
-        by (Some image) = let t = calls_hold name s closed w i n (ToWrite (Revive image guid parent text) w.time) in (t.0, one _ n _ t.1)
-    step_still (events.Backup n bind) spares =
-        one_bound _ n (of_controller w n (nothing w) (λ r. backed_up w (backup r.safe))) (λ v image. record v { images = bound v.images bind image }) (λ v image j. j)
-        (backs_up_hold name s closed w i n)
-    step_still (events.Restore n image inv) spares =
-        let t = restores_hold name s closed (gives w [] (inv ∷ [])) i n spares (bound_at w.images image) inv in (t.0, one _ n _ t.1)
-    step_still (events.Install n dsa image inv) spares =
-        let t = installs_hold name s closed (gives w (dsa ∷ []) (inv ∷ [])) i n (bound_at w.images image) dsa inv in (t.0, one _ n _ t.1)
-    step_still (events.Snapshot n bind) spares =
-        one_bound _ n (copied name s closed w i n) (λ v t. record v { snapshots = bound v.snapshots bind t }) (λ v t j. j) (copies_hold name s closed w i n)
-    step_still (events.Rollback n snapshot) spares = let t = rollbacks_hold name s closed w i n spares (bound_at w.snapshots snapshot) in (t.0, one _ n _ t.1)
-    step_still (events.StopAfter n calls how) spares = let t = plans_hold name s closed w i n (record { calls = calls; mishap = Stops how }) in (t.0, one _ n _ t.1)
-    step_still (events.Fail n calls) spares = let t = plans_hold name s closed w i n (record { calls = calls; mishap = Fails }) in (t.0, one _ n _ t.1)
-    step_still (events.Stop n) spares = let t = stops_hold name s closed w i n in (t.0, one _ n _ t.1)
-    step_still (events.Start n) spares = let t = starts_hold name s closed w i n in (t.0, one _ n _ t.1)
-    step_still (events.Report n what) spares = let t = reports_hold name s closed w i n (λ r. reported w r.safe what) (λ r. reported_undone w r.safe what) in (t.0, one _ n _ t.1)
+
+    pub step_still : (e : Event) → Spares name e → Behind (step w e)
+    step_still (events.Time now) spares = (i, silent name)
+    step_still (events.Comes n inv how) spares = told_once _ n (comes w n inv how) (comes_holds n inv how spares)
+    step_still (events.Calls n what) spares = told_once _ n (does w n (call_meant what w.time)) (calls_hold name s closed w i n (call_meant what w.time))
+    step_still (events.Uses n what bind) spares = told_once _ n (uses w n what bind) (uses_hold n bind what spares)
+    step_still (events.Binds n what bind) spares = told_once _ n (makes w n what bind) (makes_hold n bind what)
+    step_still (events.Asks n what) spares = told_once _ n (of_controller w n (stays w) (λ r. (w, reported w r.safe what)))
+        (reports_hold name s closed w i n (λ r. reported w r.safe what) (λ r. reported_undone w r.safe what))
+    step_still (events.Goes n what) spares = goes_still n what
+    step_still (events.Meets n what) spares = told_once _ n (of_made (stays w) (replica_at w n) (λ r. meets w r what)) (meets_hold name s closed w i n what)
 
   lines_still : (es : List Event) (w : World) → RestsIn s w name → Each (Spares name) es → Still name s closed (after_lines w es) (answers w es)
   lines_still [] w i spares = (i, silent name)

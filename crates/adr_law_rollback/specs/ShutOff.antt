@@ -5,6 +5,8 @@ use Rattle.adr_call.specs.declared.outcome.Outcome.{Outcome}
 use Rattle.adr_call.specs.declared.outcome.Outcome.TheVariants as outcomes
 use Rattle.adr_call.specs.declared.event.Event.{Event}
 use Rattle.adr_call.specs.declared.event.Event.TheVariants as events
+use Rattle.adr_call.specs.declared.event.Coming.TheVariants as comings
+use Rattle.adr_call.specs.declared.event.Use.TheVariants as used
 use Rattle.adr_call.specs.declared.refusal.WriteRefusal.TheVariants as writes
 use Rattle.adr_call.specs.declared.refusal.ServeRefusal.TheVariants as serves
 use Rattle.adr_call.specs.declared.refusal.TakeRefusal.TheVariants as takes
@@ -59,8 +61,8 @@ DoesNothing name told = Each (λ a. a.name ≡ name → is_done a.outcome ≡ fa
 
 -- a line that puts nothing back on this controller's disk
 abbrev pub Spares : Name → Event → Type 0
-Spares name (events.Restore other image inv) = other ≢ name
-Spares name (events.Rollback other snapshot) = other ≢ name
+Spares name (events.Comes other inv (comings.Restored image)) = other ≢ name
+Spares name (events.Uses other used.Rollback snapshot) = other ≢ name
 Spares name e = Unit {0}
 
 -- behind such a line a quarantined controller is as before, and has done nothing

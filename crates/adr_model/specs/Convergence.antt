@@ -6,6 +6,12 @@ use Rattle.adr_values.specs.Vector.{Cursors, at, at_most}
 use Rattle.adr_call.specs.declared.call.Call.TheVariants as calls
 use Rattle.adr_call.specs.declared.event.Event.{Event}
 use Rattle.adr_call.specs.declared.event.Event.TheVariants as events
+use Rattle.adr_call.specs.declared.event.Coming.{Coming}
+use Rattle.adr_call.specs.declared.event.Coming.TheVariants as comings
+use Rattle.adr_call.specs.declared.event.Use.TheVariants as uses
+use Rattle.adr_call.specs.declared.event.Made.{Made}
+use Rattle.adr_call.specs.declared.event.Made.TheVariants as mades
+use Rattle.adr_call.specs.declared.event.Exchange.TheVariants as exchanges
 use Rattle.adr_call.specs.declared.answer.Answer.{Answer}
 use Rattle.adr_call.specs.declared.outcome.Field.{Field}
 use Rattle.adr_call.specs.declared.outcome.Outcome.{Outcome}
@@ -43,16 +49,24 @@ IsNewInv w inv = Member inv w.given.invs → ⊥
 abbrev pub IsUnbound : {A : Type 0} → List (Name × A) → Name → Type 0
 IsUnbound {A} xs name = Each (λ (x : Name × A). x.0 ≢ name) xs
 
+-- a controller that comes to be has a name and identifiers that no line gave before, and one that comes back a new invocation identifier
+abbrev pub MayCome : World → Name → Identifier → Coming → Type 0
+MayCome w name inv (comings.Fresh dsa) = IsNewName w name × (IsNewDsa w dsa × IsNewInv w inv)
+MayCome w name inv (comings.Installed dsa image) = IsNewName w name × (IsNewDsa w dsa × IsNewInv w inv)
+MayCome w name inv (comings.Restored image) = IsNewInv w inv
+
+-- nothing of the kind that is made is bound to the name yet
+abbrev pub MayBind : World → Made → Name → Type 0
+MayBind w (mades.Ask partner max version) bind = IsUnbound w.requests bind
+MayBind w (mades.Serve request) bind = IsUnbound w.replies bind
+MayBind w mades.Backup bind = IsUnbound w.images bind
+MayBind w mades.Snapshot bind = IsUnbound w.snapshots bind
+
 -- an event that a line may give: names and identifiers that are new are so, and values are given in order
 abbrev pub MayHappen : World → Event → Type 0
-MayHappen w (events.Controller name dsa inv) = IsNewName w name × (IsNewDsa w dsa × IsNewInv w inv)
-MayHappen w (events.Install name dsa image inv) = IsNewName w name × (IsNewDsa w dsa × IsNewInv w inv)
-MayHappen w (events.Restore name image inv) = IsNewInv w inv
+MayHappen w (events.Comes name inv how) = MayCome w name inv how
 MayHappen w (events.Calls name what) = IsWellAsked what
-MayHappen w (events.Ask name partner max version bind) = IsUnbound w.requests bind
-MayHappen w (events.Serve name request bind) = IsUnbound w.replies bind
-MayHappen w (events.Backup name bind) = IsUnbound w.images bind
-MayHappen w (events.Snapshot name bind) = IsUnbound w.snapshots bind
+MayHappen w (events.Binds name what bind) = MayBind w what bind
 MayHappen w e = Unit {0}
 
 -- a world behind some of the pulls of cycles that come one after the other
@@ -62,8 +76,8 @@ IsAmidCycles (c ∷ cs) max w v = ((n : ℕ) × (v ≡ (pulls n w c.0 c.1 max).0
 
 -- a world on the way of a line: the one behind it, or behind some of the pulls of a cycle, or of a ring
 abbrev pub IsOnTheWay : World → Event → World → Type 0
-IsOnTheWay w (events.Cycle name source max) v = (n : ℕ) × (v ≡ (pulls n w name source max).0)
-IsOnTheWay w (events.Ring name others rounds max) v = IsAmidCycles (times rounds (ring name others)) max w v
+IsOnTheWay w (events.Goes name (exchanges.Cycle source max)) v = (n : ℕ) × (v ≡ (pulls n w name source max).0)
+IsOnTheWay w (events.Goes name (exchanges.Ring others rounds max)) v = IsAmidCycles (times rounds (ring name others)) max w v
 IsOnTheWay w e v = v ≡ (step w e).0
 
 abbrev pub BeginsSound : Type 0
@@ -79,7 +93,7 @@ StaysUnclean = (w : World) (e : Event) (v : World) → IsOnTheWay w e v → w.cl
 
 -- whether a line puts a database back
 abbrev pub puts_back : Event → Bool
-puts_back (events.Rollback name snapshot) = true
+puts_back (events.Uses name uses.Rollback bind) = true
 puts_back e = false
 
 -- and only a line that puts a database back makes a clean one unclean
@@ -249,7 +263,7 @@ pub record AreDeathsCovered (w : World) (deaths : List (Oid × Update)) : Type 0
 abbrev pub KeepsCovered : World → Event → Type 0
 KeepsCovered w (events.Calls name (calls.Collect lifetime)) =
     Each (λ r. r.name ≡ name → r.standing ≡ Up → (c : Change) → collect r.safe w.time lifetime ≡ Ok c → AreDeathsCovered w (deaths_to_collect r.safe w.time lifetime)) w.replicas
-KeepsCovered w (events.Controller name dsa inv) = (s : Store) → IsStoreOf w s → s.purged ≡ []
+KeepsCovered w (events.Comes name inv (comings.Fresh dsa)) = (s : Store) → IsStoreOf w s → s.purged ≡ []
 KeepsCovered w e = Unit {0}
 
 abbrev pub StaysCovered : Type 0

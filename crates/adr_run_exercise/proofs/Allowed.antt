@@ -9,6 +9,9 @@ use Rattle.adr_values.specs.declared.content.Value.TheVariants.{Text as Words, N
 use Rattle.adr_call.specs.declared.write.Write.TheVariants.{Delete}
 use Rattle.adr_call.specs.declared.call.Call.TheVariants as calls
 use Rattle.adr_call.specs.declared.event.Event.TheVariants as kinds
+use Rattle.adr_call.specs.declared.event.Coming.TheVariants as comings
+use Rattle.adr_call.specs.declared.event.Made.TheVariants as mades
+use Rattle.adr_call.specs.declared.event.Exchange.TheVariants as exchanges
 use Rattle.adr_token.specs.Words.{is_name}
 use Rattle.adr_token.specs.Texts.{is_text}
 use Rattle.adr_token.specs.Spelling.{identifier_token, text_token, value_token}
@@ -96,15 +99,15 @@ pub time_allowed : (now : ℕ) → now < 2 ^ 64 → IsAllowed (kinds.Time now)
 unfolding tokens_behind
 time_allowed now small = (tt, (word_spelled _, (number_spelled now small, tt)))
 
-pub controller_allowed : (name : List ℕ) (dsa inv : ℕ) → is_name name ≡ true → IsAllowed (kinds.Controller name (identifier dsa) (identifier inv))
+pub controller_allowed : (name : List ℕ) (dsa inv : ℕ) → is_name name ≡ true → IsAllowed (kinds.Comes name (identifier inv) (comings.Fresh (identifier dsa)))
 unfolding tokens_behind
 controller_allowed name dsa inv is = (tt, (word_spelled _, (name_spelled name is, (identifier_spelled dsa, (identifier_spelled inv, tt)))))
 
-pub cycle_allowed : (name source : List ℕ) → is_name name ≡ true → is_name source ≡ true → IsAllowed (kinds.Cycle name source 50)
+pub cycle_allowed : (name source : List ℕ) → is_name name ≡ true → is_name source ≡ true → IsAllowed (kinds.Goes name (exchanges.Cycle source 50))
 unfolding tokens_behind
 cycle_allowed name source is was = ((omega arith, omega arith), (word_spelled _, (name_spelled name is, (name_spelled source was, (number_spelled 50 (omega arith), tt)))))
 
-pub pull_allowed : (name source : List ℕ) → is_name name ≡ true → is_name source ≡ true → IsAllowed (kinds.Pull name source 3)
+pub pull_allowed : (name source : List ℕ) → is_name name ≡ true → is_name source ≡ true → IsAllowed (kinds.Goes name (exchanges.Pull source 3))
 unfolding tokens_behind
 pull_allowed name source is was = ((omega arith, omega arith), (word_spelled _, (name_spelled name is, (name_spelled source was, (number_spelled 3 (omega arith), tt)))))
 
@@ -112,20 +115,20 @@ pub collect_allowed : (name : List ℕ) → is_name name ≡ true → IsAllowed 
 unfolding tokens_behind
 collect_allowed name is = (tt, (word_spelled _, (name_spelled name is, (number_spelled 5000 (omega arith), tt))))
 
-pub backup_allowed : (name bound : List ℕ) → is_name name ≡ true → is_name bound ≡ true → IsAllowed (kinds.Backup name bound)
+pub backup_allowed : (name bound : List ℕ) → is_name name ≡ true → is_name bound ≡ true → IsAllowed (kinds.Binds name mades.Backup bound)
 unfolding tokens_behind
 backup_allowed name bound is new = (tt, (word_spelled _, (name_spelled name is, (word_spelled _, (name_spelled bound new, tt)))))
 
-pub restore_allowed : (name image : List ℕ) (inv : ℕ) → is_name name ≡ true → is_name image ≡ true → IsAllowed (kinds.Restore name image (identifier inv))
+pub restore_allowed : (name image : List ℕ) (inv : ℕ) → is_name name ≡ true → is_name image ≡ true → IsAllowed (kinds.Comes name (identifier inv) (comings.Restored image))
 unfolding tokens_behind
 restore_allowed name image inv is was = (tt, (word_spelled _, (name_spelled name is, (name_spelled image was, (identifier_spelled inv, tt)))))
 
-pub ask_allowed : (name partner bound : List ℕ) → is_name name ≡ true → is_name partner ≡ true → is_name bound ≡ true → IsAllowed (kinds.Ask name partner 3 2 bound)
+pub ask_allowed : (name partner bound : List ℕ) → is_name name ≡ true → is_name partner ≡ true → is_name bound ≡ true → IsAllowed (kinds.Binds name (mades.Ask partner 3 2) bound)
 unfolding tokens_behind
 ask_allowed name partner bound is of new =
     (((omega arith, omega arith), inr refl), (word_spelled _, (name_spelled name is, (name_spelled partner of, (number_spelled 3 (omega arith), (word_spelled _, (name_spelled bound new, tt)))))))
 
-pub serve_allowed : (name request bound : List ℕ) → is_name name ≡ true → is_name request ≡ true → is_name bound ≡ true → IsAllowed (kinds.Serve name request bound)
+pub serve_allowed : (name request bound : List ℕ) → is_name name ≡ true → is_name request ≡ true → is_name bound ≡ true → IsAllowed (kinds.Binds name (mades.Serve request) bound)
 unfolding tokens_behind
 serve_allowed name request bound is was new =
     (tt, (word_spelled _, (name_spelled name is, (name_spelled request was, (word_spelled _, (name_spelled bound new, tt))))))

@@ -1,7 +1,6 @@
 -- The lines of the schedule may follow one another.
 use Rattle.std.proofs.Common.{◌≡◌, ℕ, zero, suc, ◌+◌, ◌*◌, ◌/◌, ◌%◌, ◌<◌, ◌≤◌, ◌^◌, Bool, true, false, ◌||◌, List, [], ◌∷◌, ◌++◌, map, append_assoc, Option, None, refl, sym, ap, subst, ◌∙◌, arith}
-use Rattle.std.specs.Prelude.{◌==◌, if◌then◌else◌, codes, All}
-use Rattle.std.proofs.lemmas.List.Elements.{All-cons, All-nil}
+use Rattle.std.specs.Prelude.{◌==◌, if◌then◌else◌, codes}
 use Rattle.std.specs.Fmt.{decimal}
 use Rattle.std.specs.List.{range_with_len, flat_map}
 use Rattle.std.specs.Bool.{then_some}
@@ -12,6 +11,9 @@ use Rattle.adr_values.specs.First.{first_of}
 use Rattle.adr_call.specs.declared.event.Event.{Event}
 use Rattle.adr_call.specs.declared.call.Call.TheVariants as calls
 use Rattle.adr_call.specs.declared.event.Event.TheVariants as kinds
+use Rattle.adr_call.specs.declared.event.Coming.TheVariants as comings
+use Rattle.adr_call.specs.declared.event.Made.TheVariants as mades
+use Rattle.adr_call.specs.declared.event.Exchange.TheVariants as exchanges
 use Rattle.adr_call.specs.declared.write.Write.TheVariants.{Delete}
 use Rattle.adr_schedule.specs.declared.fault.Cause.{Cause}
 use Rattle.adr_schedule.specs.declared.fault.Cause.TheVariants.{IdentifierUsed}
@@ -119,14 +121,14 @@ quiet_range f limit each (suc m) a h = quiet_append (f a) (flat_map f (range_wit
 time_quiet : (now : ℕ) → now < 2 ^ 64 → IsQuiet (kinds.Time now)
 time_quiet now small = record { none = λ seen has. refl; allowed = time_allowed now small; same = λ seen. refl }
 
-cycle_quiet : (name source : List ℕ) → IsOne name → IsOne source → IsQuiet (kinds.Cycle name source 50)
+cycle_quiet : (name source : List ℕ) → IsOne name → IsOne source → IsQuiet (kinds.Goes name (exchanges.Cycle source 50))
 cycle_quiet name source one other = record {
   none = λ seen has. two_none _ _ (bound_among seen name has one) (bound_among seen source has other);
   allowed = cycle_allowed name source one.named other.named;
   same = λ seen. refl;
 }
 
-pull_quiet : (name source : List ℕ) → IsOne name → IsOne source → IsQuiet (kinds.Pull name source 3)
+pull_quiet : (name source : List ℕ) → IsOne name → IsOne source → IsQuiet (kinds.Goes name (exchanges.Pull source 3))
 pull_quiet name source one other = record {
   none = λ seen has. two_none _ _ (bound_among seen name has one) (bound_among seen source has other);
   allowed = pull_allowed name source one.named other.named;
@@ -245,11 +247,11 @@ backup_goes : (n k : ℕ) (seen : Seen) → Stands n k k k seen → Goes seen (b
 unfolding backed_up
 backup_goes n k seen s = by (k == 2 * n) refl
   where
-    by : (b : Bool) → (k == 2 * n) ≡ b → Goes seen (if b then kinds.Backup (codes "B") (codes "image") ∷ [] else []) (Stands n (k + 1) k k)
+    by : (b : Bool) → (k == 2 * n) ≡ b → Goes seen (if b then kinds.Binds (codes "B") mades.Backup (codes "image") ∷ [] else []) (Stands n (k + 1) k k)
     by true e =
         let is : k ≡ 2 * n = eqb-true k (2 * n) e in
         let none : seen.images ≡ [] = s.no_image (omega arith) in
-        one_goes (Stands n (k + 1) k k) (kinds.Backup (codes "B") (codes "image")) seen
+        one_goes (Stands n (k + 1) k k) (kinds.Binds (codes "B") mades.Backup (codes "image")) seen
         (two_none _ _ (bound_among seen (codes "B") s.controllers one_b) (ap (λ (images : List (List ℕ)). if_bound images (codes "image")) none))
         (backup_allowed (codes "B") (codes "image") refl refl)
         (record {
@@ -278,13 +280,13 @@ unfolding identifier
 inv_is_new seen e = ap (λ (invs : List (List ℕ)). then_some (is_bound invs (identifier 0xb2)) IdentifierUsed) e
 
 abbrev cycle_before : Event
-cycle_before = kinds.Cycle (codes "A") (codes "B") 50
+cycle_before = kinds.Goes (codes "A") (exchanges.Cycle (codes "B") 50)
 
 abbrev restoring : Event
-restoring = kinds.Restore (codes "B") (codes "image") (identifier 0xb2)
+restoring = kinds.Comes (codes "B") (identifier 0xb2) (comings.Restored (codes "image"))
 
 abbrev cycle_behind : Event
-cycle_behind = kinds.Cycle (codes "B") (codes "A") 50
+cycle_behind = kinds.Goes (codes "B") (exchanges.Cycle (codes "A") 50)
 
 -- B is restored of its image
 restore_goes : (n k : ℕ) (seen : Seen) → k ≡ 3 * n → k < 5 * n → Stands n (k + 1) k k seen
@@ -358,16 +360,16 @@ lost_goes n k p q seen small s = ((may_ask, asking, (may_serve, serving, tt)), a
     asked : unless_bound (seen.requests ++ numbered (codes "q") k ∷ []) (numbered (codes "q") k) ≡ None
     asked = rw (bound_last seen.requests (numbered (codes "q") k)) refl
 
-    may_ask : cause_after seen (kinds.Ask (controller p) (controller q) 3 2 (numbered (codes "q") k)) ≡ None
+    may_ask : cause_after seen (kinds.Binds (controller p) (mades.Ask (controller q) 3 2) (numbered (codes "q") k)) ≡ None
     may_ask = three_none _ _ _ (bound_among seen (controller p) s.controllers (one_of p)) (bound_among seen (controller q) s.controllers (one_of q)) new_request
 
-    asking : IsAllowed (kinds.Ask (controller p) (controller q) 3 2 (numbered (codes "q") k))
+    asking : IsAllowed (kinds.Binds (controller p) (mades.Ask (controller q) 3 2) (numbered (codes "q") k))
     asking = ask_allowed (controller p) (controller q) (numbered (codes "q") k) (controller_named p) (controller_named q) (request_named k small)
 
-    may_serve : cause_after (record seen { requests = seen.requests ++ numbered (codes "q") k ∷ [] }) (kinds.Serve (controller q) (numbered (codes "q") k) (numbered (codes "r") k)) ≡ None
+    may_serve : cause_after (record seen { requests = seen.requests ++ numbered (codes "q") k ∷ [] }) (kinds.Binds (controller q) (mades.Serve (numbered (codes "q") k)) (numbered (codes "r") k)) ≡ None
     may_serve = three_none _ _ _ (bound_among seen (controller q) s.controllers (one_of q)) asked new_reply
 
-    serving : IsAllowed (kinds.Serve (controller q) (numbered (codes "q") k) (numbered (codes "r") k))
+    serving : IsAllowed (kinds.Binds (controller q) (mades.Serve (numbered (codes "q") k)) (numbered (codes "r") k))
     serving = serve_allowed (controller q) (numbered (codes "q") k) (numbered (codes "r") k) (controller_named q) (request_named k small) (reply_named k small)
 
     after : Stands n (k + 1) (k + 1) (k + 1) (record seen { requests = seen.requests ++ numbered (codes "q") k ∷ []; replies = seen.replies ++ numbered (codes "r") k ∷ [] })
@@ -384,9 +386,9 @@ exchanged_goes : (n k p q luck : ℕ) (seen : Seen) → IsSmall k → Stands n (
 unfolding exchanged
 exchanged_goes n k p q luck seen small s = by (luck == 0)
   where
-    by : (b : Bool) → Goes seen (if b then lost k p q else kinds.Pull (controller p) (controller q) 3 ∷ []) (Stands n (k + 1) (k + 1) (k + 1))
+    by : (b : Bool) → Goes seen (if b then lost k p q else kinds.Goes (controller p) (exchanges.Pull (controller q) 3) ∷ []) (Stands n (k + 1) (k + 1) (k + 1))
     by true = lost_goes n k p q seen small s
-    by false = quiet_go (Stands n (k + 1) (k + 1) (k + 1)) (kinds.Pull (controller p) (controller q) 3 ∷ []) seen (pull_quiet (controller p) (controller q) (one_of p) (one_of q), tt) s.controllers (later n k seen s)
+    by false = quiet_go (Stands n (k + 1) (k + 1) (k + 1)) (kinds.Goes (controller p) (exchanges.Pull (controller q) 3) ∷ []) seen (pull_quiet (controller p) (controller q) (one_of p) (one_of q), tt) s.controllers (later n k seen s)
 
 met_goes : (n k x : ℕ) (seen : Seen) → IsSmall k → Stands n (k + 1) (k + 1) k seen → Goes seen (met x k) (Stands n (k + 1) (k + 1) (k + 1))
 unfolding met

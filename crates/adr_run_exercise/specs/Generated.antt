@@ -7,7 +7,10 @@ use Rattle.adr_values.specs.declared.content.Value.TheVariants.{Text, Number}
 use Rattle.adr_call.specs.declared.write.Write.TheVariants.{Add, Delete, Link}
 use Rattle.adr_call.specs.declared.event.Event.{Event}
 use Rattle.adr_call.specs.declared.call.Call.TheVariants.{Write, Collect}
-use Rattle.adr_call.specs.declared.event.Event.TheVariants.{Controller, Time, Calls, Ask, Serve, Pull, Cycle, Backup, Restore}
+use Rattle.adr_call.specs.declared.event.Event.TheVariants.{Time, Calls, Binds, Comes, Goes}
+use Rattle.adr_call.specs.declared.event.Coming.TheVariants.{Fresh, Restored}
+use Rattle.adr_call.specs.declared.event.Made.TheVariants.{Ask, Backup, Serve}
+use Rattle.adr_call.specs.declared.event.Exchange.TheVariants.{Cycle, Pull}
 
 -- ---- names and numbers
 
@@ -66,7 +69,7 @@ state x (suc draws) = next_state (state x draws)
 
 -- A, B, C and D, each with a cycle from the one before it
 unfoldable pub round : List Event
-round = Cycle (codes "B") (codes "A") 50 ∷ Cycle (codes "C") (codes "B") 50 ∷ Cycle (codes "D") (codes "C") 50 ∷ Cycle (codes "A") (codes "D") 50 ∷ []
+round = Goes (codes "B") (Cycle (codes "A") 50) ∷ Goes (codes "C") (Cycle (codes "B") 50) ∷ Goes (codes "D") (Cycle (codes "C") 50) ∷ Goes (codes "A") (Cycle (codes "D") 50) ∷ []
 
 unfoldable pub rounds : ℕ → List Event
 rounds zero = []
@@ -75,10 +78,10 @@ rounds (suc n) = rounds n ++ round
 unfoldable pub beginning : List Event
 beginning =
     Time 1000
-    ∷ Controller (codes "A") (identifier 0xa0) (identifier 0xa1)
-    ∷ Controller (codes "B") (identifier 0xb0) (identifier 0xb1)
-    ∷ Controller (codes "C") (identifier 0xc0) (identifier 0xc1)
-    ∷ Controller (codes "D") (identifier 0xd0) (identifier 0xd1)
+    ∷ Comes (codes "A") (identifier 0xa1) (Fresh (identifier 0xa0))
+    ∷ Comes (codes "B") (identifier 0xb1) (Fresh (identifier 0xb0))
+    ∷ Comes (codes "C") (identifier 0xc1) (Fresh (identifier 0xc0))
+    ∷ Comes (codes "D") (identifier 0xd1) (Fresh (identifier 0xd0))
     ∷ []
 
 unfoldable pub group_added : ℕ → Event
@@ -89,12 +92,12 @@ groups = map group_added (range_with_len 0 10)
 
 -- an image of B is made before person 2 N, and B is restored of it before person 3 N, in between two cycles of A and B
 unfoldable pub backed_up : ℕ → ℕ → List Event
-backed_up n k = if k == 2 * n then Backup (codes "B") (codes "image") ∷ [] else []
+backed_up n k = if k == 2 * n then Binds (codes "B") Backup (codes "image") ∷ [] else []
 
 unfoldable pub restored : ℕ → ℕ → List Event
 restored n k =
     if k == 3 * n
-    then Cycle (codes "A") (codes "B") 50 ∷ Restore (codes "B") (codes "image") (identifier 0xb2) ∷ Cycle (codes "B") (codes "A") 50 ∷ []
+    then Goes (codes "A") (Cycle (codes "B") 50) ∷ Comes (codes "B") (identifier 0xb2) (Restored (codes "image")) ∷ Goes (codes "B") (Cycle (codes "A") 50) ∷ []
     else []
 
 -- a person is added, and linked to a group, at the controllers by turns
@@ -107,12 +110,12 @@ person_linked k = Calls (controller (k % 4)) (Write (Link (group (k % 10)) membe
 -- one controller pulls from another, or it asks, is answered, and the reply is lost
 unfoldable pub lost : ℕ → ℕ → ℕ → List Event
 lost k p q =
-    Ask (controller p) (controller q) 3 2 (numbered (codes "q") k)
-    ∷ Serve (controller q) (numbered (codes "q") k) (numbered (codes "r") k)
+    Binds (controller p) (Ask (controller q) 3 2) (numbered (codes "q") k)
+    ∷ Binds (controller q) (Serve (numbered (codes "q") k)) (numbered (codes "r") k)
     ∷ []
 
 unfoldable pub exchanged : ℕ → ℕ → ℕ → ℕ → List Event
-exchanged k p q luck = if luck == 0 then lost k p q else Pull (controller p) (controller q) 3 ∷ []
+exchanged k p q luck = if luck == 0 then lost k p q else Goes (controller p) (Pull (controller q) 3) ∷ []
 
 -- three draws say who pulls, how far on its source is, and the luck
 unfoldable pub met : ℕ → ℕ → List Event

@@ -1,5 +1,5 @@
 -- What is claimed of the schedule of every number: its lines are allowed and may follow one another, and so may be printed, read and run.
-use Rattle.std.specs.Prelude.{◌≡◌, ◌<◌, ◌≤◌, ◌^◌, ℕ, length, All, Ok}
+use Rattle.std.specs.Prelude.{◌≡◌, ◌<◌, ◌≤◌, ◌^◌, ℕ, length, Ok}
 use Rattle.adr_schedule.specs.Limits.{text_limit}
 use Rattle.adr_schedule.specs.Seen.{nothing_seen, IsFollowing}
 use Rattle.adr_schedule.specs.Events.{events_of}

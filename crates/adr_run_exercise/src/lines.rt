@@ -3,10 +3,12 @@
 ghost use Rattle.std.specs.Prelude.{◌≡◌, ◌++◌, ◌∷◌, [], ◌<◌, IfOk, OnOk};
 ghost use Rattle.adr_call.specs.declared.call.Call.TheVariants as calls;
 ghost use Rattle.adr_call.specs.declared.event.Event.TheVariants as kinds;
+ghost use Rattle.adr_call.specs.declared.event.Coming.TheVariants as comings;
+ghost use Rattle.adr_call.specs.declared.event.Exchange.TheVariants as exchanges;
 ghost use Rattle.adr_run_exercise.specs.Generated.{beginning, collections, group_added, groups, identifier, round, rounds};
 
 use crate::words::{group, identifier, numbered, root};
-use adr_call::{Call, Event, Write};
+use adr_call::{Call, Coming, Event, Exchange, Write};
 use adr_values::{Assignments, NoMemory, Text, Value};
 use std::alloc::{AllocError, Global};
 
@@ -57,15 +59,17 @@ fn push_controller(
     dsa: u128,
     inv: u128,
 ) -> Result<(), NoMemory>
-    ensures { OnOk result (events.new.items ≡ events.old.items ++ kinds.Controller name.now (identifier dsa) (identifier inv) ∷ []) }
+    ensures { OnOk result (events.new.items ≡ events.old.items ++ kinds.Comes name.now (identifier inv) (comings.Fresh (identifier dsa)) ∷ []) }
 {
     let name = Text::from_str(alloc, name)?;
     push(
         events,
-        Event::Controller {
+        Event::Comes {
             name,
-            dsa: identifier(dsa),
             inv: identifier(inv),
+            how: Coming::Fresh {
+                dsa: identifier(dsa),
+            },
         },
     )
 }
@@ -77,16 +81,15 @@ pub fn push_cycle(
     name: &str,
     source: &str,
 ) -> Result<(), NoMemory>
-    ensures { OnOk result (events.new.items ≡ events.old.items ++ kinds.Cycle name.now source.now 50 ∷ []) }
+    ensures { OnOk result (events.new.items ≡ events.old.items ++ kinds.Goes name.now (exchanges.Cycle source.now 50) ∷ []) }
 {
     let name = Text::from_str(alloc, name)?;
     let source = Text::from_str(alloc, source)?;
     push(
         events,
-        Event::Cycle {
+        Event::Goes {
             name,
-            source,
-            max: 50,
+            what: Exchange::Cycle { source, max: 50 },
         },
     )
 }

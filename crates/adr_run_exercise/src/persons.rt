@@ -2,12 +2,15 @@
 
 ghost use Rattle.std.specs.Prelude.{◌≡◌, ◌<◌, ◌+◌, ◌*◌, ◌/◌, ◌%◌, ◌^◌, ◌++◌, ◌∷◌, [], OnOk, codes};
 ghost use Rattle.adr_call.specs.declared.event.Event.TheVariants as kinds;
+ghost use Rattle.adr_call.specs.declared.event.Coming.TheVariants as comings;
+ghost use Rattle.adr_call.specs.declared.event.Made.TheVariants as mades;
+ghost use Rattle.adr_call.specs.declared.event.Exchange.TheVariants as exchanges;
 ghost use Rattle.adr_run_exercise.specs.Generated.{backed_up, controller, deletions, exchange, exchanged, identifier, lost, met, numbered, person_added, person_deleted, person_lines, person_linked, persons, restored, state};
 
 use crate::generator::Generator;
 use crate::lines::{one_value, push, push_cycle, push_time};
 use crate::words::{controller, group, identifier, numbered, person, root};
-use adr_call::{Call, Event, Write};
+use adr_call::{Call, Coming, Event, Exchange, Made, Write};
 use adr_values::{NoMemory, Text, Value};
 use std::alloc::Global;
 
@@ -28,19 +31,21 @@ fn push_backup(alloc: Global, events: &mut Vec<Event>, n: u64, k: u128) -> Resul
     if k == 2 * u128::from(n) {
         let name = Text::from_str(alloc, "B")?;
         let bound = Text::from_str(alloc, "image")?;
-        push(events, Event::Backup { name, bound })?;
+        let what = Made::Backup;
+        push(events, Event::Binds { name, what, bound })?;
     }
     Ok(())
 }
 
 /// Adds the restored controller.
 fn push_restore(alloc: Global, events: &mut Vec<Event>) -> Result<(), NoMemory>
-    ensures { OnOk result (events.new.items ≡ events.old.items ++ kinds.Restore (codes "B") (codes "image") (identifier 0xb2) ∷ []) }
+    ensures { OnOk result (events.new.items ≡ events.old.items ++ kinds.Comes (codes "B") (identifier 0xb2) (comings.Restored (codes "image")) ∷ []) }
 {
     let name = Text::from_str(alloc, "B")?;
     let image = Text::from_str(alloc, "image")?;
     let inv = identifier(0xb2);
-    push(events, Event::Restore { name, image, inv })
+    let how = Coming::Restored { image };
+    push(events, Event::Comes { name, inv, how })
 }
 
 /// Adds the restored controller between its cycles, where its person has come.
@@ -111,38 +116,28 @@ fn push_asked(
     p: u64,
     q: u64,
 ) -> Result<(), NoMemory>
-    ensures { OnOk result (events.new.items ≡ events.old.items ++ kinds.Ask (controller p) (controller q) 3 2 (numbered (codes "q") k) ∷ []) }
+    ensures { OnOk result (events.new.items ≡ events.old.items ++ kinds.Binds (controller p) (mades.Ask (controller q) 3 2) (numbered (codes "q") k) ∷ []) }
 {
     let name = controller(alloc, p)?;
     let partner = controller(alloc, q)?;
     let bound = numbered(alloc, "q", k)?;
-    push(
-        events,
-        Event::Ask {
-            name,
-            partner,
-            max: 3,
-            version: 2,
-            bound,
-        },
-    )
+    let what = Made::Ask {
+        partner,
+        max: 3,
+        version: 2,
+    };
+    push(events, Event::Binds { name, what, bound })
 }
 
 /// Adds the line that serves a request.
 fn push_served(alloc: Global, events: &mut Vec<Event>, k: u128, q: u64) -> Result<(), NoMemory>
-    ensures { OnOk result (events.new.items ≡ events.old.items ++ kinds.Serve (controller q) (numbered (codes "q") k) (numbered (codes "r") k) ∷ []) }
+    ensures { OnOk result (events.new.items ≡ events.old.items ++ kinds.Binds (controller q) (mades.Serve (numbered (codes "q") k)) (numbered (codes "r") k) ∷ []) }
 {
     let name = controller(alloc, q)?;
     let request = numbered(alloc, "q", k)?;
     let bound = numbered(alloc, "r", k)?;
-    push(
-        events,
-        Event::Serve {
-            name,
-            request,
-            bound,
-        },
-    )
+    let what = Made::Serve { request };
+    push(events, Event::Binds { name, what, bound })
 }
 
 /// Adds a request that is served, and whose reply is lost.
@@ -162,18 +157,12 @@ fn push_lost(
 
 /// Adds a pull.
 fn push_pull(alloc: Global, events: &mut Vec<Event>, p: u64, q: u64) -> Result<(), NoMemory>
-    ensures { OnOk result (events.new.items ≡ events.old.items ++ kinds.Pull (controller p) (controller q) 3 ∷ []) }
+    ensures { OnOk result (events.new.items ≡ events.old.items ++ kinds.Goes (controller p) (exchanges.Pull (controller q) 3) ∷ []) }
 {
     let name = controller(alloc, p)?;
     let source = controller(alloc, q)?;
-    push(
-        events,
-        Event::Pull {
-            name,
-            source,
-            max: 3,
-        },
-    )
+    let what = Exchange::Pull { source, max: 3 };
+    push(events, Event::Goes { name, what })
 }
 
 /// Adds a pull, or by bad luck a request whose reply is lost.

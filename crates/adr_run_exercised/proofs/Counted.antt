@@ -6,6 +6,9 @@ use Rattle.adr_call.specs.declared.write.Write.TheVariants.{Delete}
 use Rattle.adr_call.specs.declared.call.Call.TheVariants as calls
 use Rattle.adr_call.specs.declared.event.Event.{Event}
 use Rattle.adr_call.specs.declared.event.Event.TheVariants as events
+use Rattle.adr_call.specs.declared.event.Coming.TheVariants as comings
+use Rattle.adr_call.specs.declared.event.Made.TheVariants as mades
+use Rattle.adr_call.specs.declared.event.Exchange.TheVariants as exchanges
 use Rattle.adr_run_exercise.specs.Generated.{controller, identifier, person, round, rounds, beginning, group_added, groups, backed_up, restored, person_added, person_linked, lost, exchanged, met, exchange, drawn, state, person_lines, persons, person_deleted, deletions, collections}
 use Rattle.adr_run_exercised.specs.Exercised.{until_deleted, until_collected}
 use Rattle.adr_run_exercised.proofs.Few.{is_write, writes_in}
@@ -51,11 +54,13 @@ groups_write (suc m) a = omega (arith, group_writes a, groups_write m (a + 1))
 
 backed_up_writes : (n k : ℕ) → writes_in (backed_up n k) ≡ 0
 unfolding backed_up
-backed_up_writes n k = none_where (k == 2 * n) (events.Backup (codes "B") (codes "image") ∷ []) refl
+backed_up_writes n k = none_where (k == 2 * n) (events.Binds (codes "B") mades.Backup (codes "image") ∷ []) refl
 
 restored_writes : (n k : ℕ) → writes_in (restored n k) ≡ 0
 unfolding restored
-restored_writes n k = none_where (k == 3 * n) (events.Cycle (codes "A") (codes "B") 50 ∷ events.Restore (codes "B") (codes "image") (identifier 0xb2) ∷ events.Cycle (codes "B") (codes "A") 50 ∷ []) refl
+restored_writes n k = none_where (k == 3 * n) (
+    events.Goes (codes "A") (exchanges.Cycle (codes "B") 50) ∷ events.Comes (codes "B") (identifier 0xb2) (comings.Restored (codes "image"))
+    ∷ events.Goes (codes "B") (exchanges.Cycle (codes "A") 50) ∷ []) refl
 
 added_writes : (k : ℕ) → is_write (person_added k) ≡ 1
 unfolding person_added
@@ -73,7 +78,7 @@ exchanged_writes : (k p q luck : ℕ) → writes_in (exchanged k p q luck) ≡ 0
 unfolding exchanged
 exchanged_writes k p q luck = by (luck == 0)
   where
-    by : (b : Bool) → writes_in (if b then lost k p q else events.Pull (controller p) (controller q) 3 ∷ []) ≡ 0
+    by : (b : Bool) → writes_in (if b then lost k p q else events.Goes (controller p) (exchanges.Pull (controller q) 3) ∷ []) ≡ 0
     by true = lost_writes k p q
     by false = refl
 

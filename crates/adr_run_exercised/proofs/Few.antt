@@ -6,9 +6,12 @@ use Rattle.adr_call.specs.declared.refusal.AdoptRefusal.{AdoptRefusal}
 use Rattle.adr_call.specs.declared.write.Write.{Write as Asked}
 use Rattle.adr_call.specs.declared.write.Write.TheVariants as asked
 use Rattle.adr_disk.specs.declared.memory.Crash.TheVariants.{Kept, Lost, Torn}
+use Rattle.adr_call.specs.declared.call.Call.{Call as Said}
 use Rattle.adr_call.specs.declared.call.Call.TheVariants as calls
 use Rattle.adr_call.specs.declared.event.Event.{Event}
 use Rattle.adr_call.specs.declared.event.Event.TheVariants as events
+use Rattle.adr_call.specs.declared.event.Coming.TheVariants as comings
+use Rattle.adr_call.specs.declared.event.Made.TheVariants as mades
 use Rattle.adr_values.specs.Assignments.{Given}
 use Rattle.adr_values.specs.declared.content.Content.TheVariants.{Values}
 use Rattle.adr_values.specs.declared.stamp.LinkStamp.{LinkStamp}
@@ -24,12 +27,13 @@ use Rattle.adr_model.specs.Change.{Change, Written, updates_written}
 use Rattle.adr_model.specs.Lengths.{new_log, area_fits, change_fits}
 use Rattle.adr_model.specs.Serve.{units_of, last_local}
 use Rattle.adr_model.specs.Write.{Write, AddObject, Modify, Rename, Delete, AddLink, RemoveLink, Revive, write_meant, row, next_row, new_rows, new_object, first_stamp, entry_in, nodes_held, object_of, rows_written, more_written, items_written, own_change, write_refusal, write}
+use Rattle.adr_model.specs.Client.{call_meant}
 use Rattle.adr_model.specs.Collect.{adopt}
 use Rattle.adr_disk.specs.declared.memory.Mishap.TheVariants.{Fails, Stops}
 use Rattle.adr_disk.specs.declared.memory.Plan.{Plan}
 use Rattle.adr_model.specs.Replica.{Call, ToWrite, ToTake, ToCollect, ToUpgrade, ToQuarantine, change_of, issued_by, Pending, Up, Down, Failed, Replica, on_new_disk, Book, begun, Move, Begin, Settle, Forget, moved, Went, Passed, Met, moves_of_commit, standing_after, commit_goes, device_after_commit, device_settled}
-use Rattle.adr_model.specs.World.{Name, World, Gone, stays, bound_at, replica_at, with_replica, of_made, of_image, after_moves, adopts}
-use Rattle.adr_model.specs.Cycles.{reply_limit, pull_version}
+use Rattle.adr_model.specs.World.{Name, World, Gone, stays, bound_at, replica_at, with_replica, of_made, of_image, after_moves, does, adopts}
+use Rattle.adr_model.specs.Cycles.{pull_version}
 use Rattle.adr_model.specs.Step.{gives, step, after_lines}
 use Rattle.adr_model.specs.Convergence.{units_beyond}
 use Rattle.adr_model.proofs.Members.{member_of_either, mapped_member, member_mapped, of_filter}
@@ -40,11 +44,11 @@ use Rattle.adr_law_knowledge.proofs.Refusing.{answered}
 use Rattle.adr_law_calls.proofs.Candidates.{unit_of_row}
 use Rattle.adr_law_convergence.proofs.Called.{IsKeptBehind, calls_so, asks_so, serves_so, delivers_so, backs_up_so}
 use Rattle.adr_law_convergence.proofs.Calls.{in_change}
-use Rattle.adr_law_convergence.proofs.Exchanges.{IsKeptByCalls, worlds_alone, pull_so, pulls_so}
+use Rattle.adr_law_convergence.proofs.Exchanges.{IsKeptByCalls, worlds_alone, goes_so}
 use Rattle.adr_law_convergence.proofs.Found.{same_name_tests, still_there}
 use Rattle.adr_law_convergence.proofs.Reached.{made_case, within_case}
 use Rattle.adr_run_exercised.proofs.Manned.{IsReady, AreManned, asking, serving, delivering, stays_manned}
-use Rattle.adr_run_exercised.proofs.Mild.{IsMild, AreMild}
+use Rattle.adr_run_exercised.proofs.Mild.{IsMildCall, IsMild, AreMild}
 
 -- updates of so many units at most
 pub record AreOfFew (most : ℕ) (us : List Update) : Type 0 where
@@ -256,17 +260,20 @@ module _ (names : List Name) (k : ℕ) where
       kept : IsKeptBehind (Issues k) IsSilent w
       kept = silent k w is.0.ready is.1
 
+      called : (name : Name) (what : Said) → IsMildCall true what → Each IsReady (does w name (call_meant what w.time)).0.replicas → AreOfFew (k + is_write (events.Calls name what)) (does w name (call_meant what w.time)).0.book.issued
+      called name (calls.Write what) mild ready = calls_so (Issues (k + 1)) IsWriteOfOne w (writing_one k w is.0.ready is.1) name (ToWrite (write_meant what) w.time) (meant_is_of_one_item what) ready
+      called name (calls.Collect lifetime) mild ready = no_more _ (calls_so (Issues k) IsSilent w kept name (ToCollect w.time lifetime) tt ready)
+      called name what mild ready = absurd mild
+
       by : (e : Event) → IsMild true e → Each IsReady (step w e).0.replicas → AreOfFew (k + is_write e) (step w e).0.book.issued
-      by (events.Controller name dsa inv) mild ready = no_more w.book.issued is.1
       by (events.Time now) mild ready = no_more w.book.issued is.1
-      by (events.Calls name (calls.Write what)) mild ready = calls_so (Issues (k + 1)) IsWriteOfOne w (writing_one k w is.0.ready is.1) name (ToWrite (write_meant what) w.time) (meant_is_of_one_item what) ready
-      by (events.Ask name partner max version bind) mild ready = no_more _ (asks_so (Issues k) IsSilent w kept name partner max version ready)
-      by (events.Serve name request bind) mild ready = no_more _ (serves_so (Issues k) IsSilent w kept name (bound_at w.requests request) tt ready)
-      by (events.Pull name source max) mild ready = no_more _ (pull_so MannedFew (λ v q. Unit {0}) (λ v r. Unit {0}) (λ o. Unit {0}) keeps_few name source max w is).0.1
-      by (events.Cycle name source max) mild ready = no_more _ (pulls_so MannedFew (λ v q. Unit {0}) (λ v r. Unit {0}) (λ o. Unit {0}) keeps_few name source max reply_limit w is).0.1
-      by (events.Calls name (calls.Collect lifetime)) mild ready = no_more _ (calls_so (Issues k) IsSilent w kept name (ToCollect w.time lifetime) tt ready)
-      by (events.Backup name bind) mild ready = no_more _ (backs_up_so (Issues k) IsSilent w kept name ready)
-      by (events.Restore name image inv) mild ready = no_more _ (adopting_few (gives w [] (inv ∷ [])) is.1 name (bound_at w.images image) inv)
+      by (events.Comes name inv (comings.Fresh dsa)) mild ready = no_more w.book.issued is.1
+      by (events.Comes name inv (comings.Restored image)) mild ready = no_more _ (adopting_few (gives w [] (inv ∷ [])) is.1 name (bound_at w.images image) inv)
+      by (events.Calls name what) mild ready = called name what mild ready
+      by (events.Binds name (mades.Ask partner max version) bind) mild ready = no_more _ (asks_so (Issues k) IsSilent w kept name partner max version ready)
+      by (events.Binds name (mades.Serve request) bind) mild ready = no_more _ (serves_so (Issues k) IsSilent w kept name (bound_at w.requests request) tt ready)
+      by (events.Binds name mades.Backup bind) mild ready = no_more _ (backs_up_so (Issues k) IsSilent w kept name ready)
+      by (events.Goes name what) mild ready = no_more _ (goes_so MannedFew (λ v q. Unit {0}) (λ v r. Unit {0}) (λ o. Unit {0}) keeps_few (λ n d v. tt) name what w is).0.1
       by e mild ready = absurd mild
 
 pub lines_few : (names : List Name) (es : List Event) (k : ℕ) (w : World) → AreManned names w.replicas → AreMild true es → AreOfFew k w.book.issued → AreOfFew (k + writes_in es) (after_lines w es).book.issued

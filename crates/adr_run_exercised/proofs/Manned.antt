@@ -8,28 +8,28 @@ use Rattle.adr_call.specs.declared.refusal.ServeRefusal.TheVariants as serves
 use Rattle.adr_call.specs.declared.refusal.TakeRefusal.{TakeRefusal}
 use Rattle.adr_call.specs.declared.refusal.TakeRefusal.TheVariants as takes
 use Rattle.adr_call.specs.declared.refusal.AdoptRefusal.{AdoptRefusal}
-use Rattle.adr_call.specs.declared.call.Call.TheVariants as calls
 use Rattle.adr_call.specs.declared.event.Event.{Event}
 use Rattle.adr_call.specs.declared.event.Event.TheVariants as events
+use Rattle.adr_call.specs.declared.event.Coming.TheVariants as comings
+use Rattle.adr_call.specs.declared.event.Made.TheVariants as mades
 use Rattle.adr_model.specs.Member.{Member, Each}
 use Rattle.adr_model.specs.Update.{Identifier}
 use Rattle.adr_model.specs.Store.{Store, State, empty_state}
 use Rattle.adr_model.specs.Change.{Change}
 use Rattle.adr_model.specs.Lengths.{new_log, area_fits, change_fits}
 use Rattle.adr_model.specs.Serve.{Request, Reply, serve}
-use Rattle.adr_model.specs.Write.{Write, write_meant}
 use Rattle.adr_model.specs.Take.{take}
 use Rattle.adr_model.specs.Collect.{backup, adopt, quarantine}
 use Rattle.adr_model.specs.Refused.{serve_refused, take_refused}
 use Rattle.adr_disk.specs.declared.memory.Plan.{Plan}
-use Rattle.adr_model.specs.Client.{Done, done}
-use Rattle.adr_model.specs.Replica.{Call, Pending, ToWrite, ToTake, ToCollect, ToQuarantine, Up, Failed, Replica, on_new_disk, begun, moved, went, behind, calls_before, moves_of_commit, standing_after, commit_goes, device_after_commit}
+use Rattle.adr_model.specs.Client.{Done, call_meant, done}
+use Rattle.adr_model.specs.Replica.{Call, Pending, ToTake, ToQuarantine, Up, Failed, Replica, on_new_disk, begun, moved, went, behind, calls_before, moves_of_commit, standing_after, commit_goes, device_after_commit}
 use Rattle.adr_model.specs.World.{Name, World, Gone, Sent, stays, nothing, bound_at, replica_at, with_replica, of_made, of_controller, of_image, committed, commit, quarantines, asks, after_serve, served, serves_request, after_take, delivered, delivers, backed_up, adopts, after_call, does}
-use Rattle.adr_model.specs.Cycles.{pull, pulls, reply_limit, pull_version}
+use Rattle.adr_model.specs.Cycles.{pull, pulls, pull_version}
 use Rattle.adr_model.specs.Step.{gives, step, after_lines}
 use Rattle.adr_model.proofs.Members.{member_left, member_of_either}
 use Rattle.adr_law_convergence.proofs.Cycling.{no_plan_left}
-use Rattle.adr_law_convergence.proofs.Exchanges.{IsKeptByCalls, worlds_alone, pull_so, pulls_so}
+use Rattle.adr_law_convergence.proofs.Exchanges.{IsKeptByCalls, worlds_alone, pull_so, pulls_so, goes_so}
 use Rattle.adr_law_convergence.proofs.Found.{same_name, in_place, still_there}
 use Rattle.adr_law_convergence.proofs.Reached.{made_case, up_case, reached_case, within_case}
 use Rattle.adr_run_exercised.proofs.Mild.{IsMild, AreMild}
@@ -162,16 +162,14 @@ module _ (names : List Name) where
   -- ---- lines
 
   pub stays_manned : (w : World) → Manned w → (e : Event) → IsMild true e → Manned (step w e).0
-  stays_manned w are (events.Controller name dsa inv) is = joined w.replicas (on_new_disk name (empty_state dsa inv)) (refl, refl) are
   stays_manned w are (events.Time now) is = are
-  stays_manned w are (events.Calls name (calls.Write what)) is = doing w are name (ToWrite (write_meant what) w.time)
-  stays_manned w are (events.Ask name partner max version bind) is = asking w are name partner max version
-  stays_manned w are (events.Serve name request bind) is = serving w are name (bound_at w.requests request)
-  stays_manned w are (events.Pull name source max) is = pulling_manned name source max w are
-  stays_manned w are (events.Cycle name source max) is = cycling_manned name source max reply_limit w are
-  stays_manned w are (events.Calls name (calls.Collect lifetime)) is = doing w are name (ToCollect w.time lifetime)
-  stays_manned w are (events.Backup name bind) is = backing_up w are name
-  stays_manned w are (events.Restore name image inv) is = restoring (gives w [] (inv ∷ [])) are name (bound_at w.images image) inv
+  stays_manned w are (events.Comes name inv (comings.Fresh dsa)) is = joined w.replicas (on_new_disk name (empty_state dsa inv)) (refl, refl) are
+  stays_manned w are (events.Comes name inv (comings.Restored image)) is = restoring (gives w [] (inv ∷ [])) are name (bound_at w.images image) inv
+  stays_manned w are (events.Calls name what) is = doing w are name (call_meant what w.time)
+  stays_manned w are (events.Binds name (mades.Ask partner max version) bind) is = asking w are name partner max version
+  stays_manned w are (events.Binds name (mades.Serve request) bind) is = serving w are name (bound_at w.requests request)
+  stays_manned w are (events.Binds name mades.Backup bind) is = backing_up w are name
+  stays_manned w are (events.Goes name what) is = (goes_so Manned (λ v q. Unit {0}) (λ v r. Unit {0}) (λ o. Unit {0}) keeps_manned (λ n d v. tt) name what w are).0
   stays_manned w are e is = absurd is
 
   pub lines_manned : (es : List Event) (w : World) → AreMild true es → Manned w → Manned (after_lines w es)

@@ -3,26 +3,34 @@ use Rattle.std.proofs.Common.{◌≡◌, inl, inr, ℕ, zero, suc, ◌+◌, ◌*
 use Rattle.std.specs.Prelude.{◌==◌, if◌then◌else◌, codes}
 use Rattle.std.specs.List.{range_with_len, flat_map}
 use Rattle.adr_call.specs.declared.write.Write.TheVariants.{Delete}
+use Rattle.adr_call.specs.declared.call.Call.{Call}
 use Rattle.adr_call.specs.declared.call.Call.TheVariants as calls
 use Rattle.adr_call.specs.declared.event.Event.{Event}
 use Rattle.adr_call.specs.declared.event.Event.TheVariants as events
+use Rattle.adr_call.specs.declared.event.Coming.TheVariants as comings
+use Rattle.adr_call.specs.declared.event.Made.TheVariants as mades
+use Rattle.adr_call.specs.declared.event.Exchange.TheVariants as exchanges
 use Rattle.adr_model.specs.World.{World}
 use Rattle.adr_model.specs.Step.{step, after_lines}
 use Rattle.adr_model.specs.Convergence.{MayAllHappen, puts_back, PutsNothingBack}
 use Rattle.adr_run_exercise.specs.Generated.{controller, identifier, person, round, rounds, beginning, group_added, groups, backed_up, restored, person_added, person_linked, lost, exchanged, met, exchange, drawn, state, person_lines, persons, person_deleted, deletions, collections}
 
--- a line of one of these kinds; it collects only where that is said
+-- a write, or a collection where that is said
+abbrev pub IsMildCall : Bool → Call → Type 0
+IsMildCall collects (calls.Write what) = Unit {0}
+IsMildCall collects (calls.Collect lifetime) = collects ≡ true
+IsMildCall collects what = ⊥
+
+-- a line of one of these kinds
 abbrev pub IsMild : Bool → Event → Type 0
-IsMild collects (events.Controller name dsa inv) = Unit {0}
 IsMild collects (events.Time now) = Unit {0}
-IsMild collects (events.Calls name (calls.Write what)) = Unit {0}
-IsMild collects (events.Ask name partner max version bind) = Unit {0}
-IsMild collects (events.Serve name request bind) = Unit {0}
-IsMild collects (events.Pull name source max) = Unit {0}
-IsMild collects (events.Cycle name source max) = Unit {0}
-IsMild collects (events.Calls name (calls.Collect lifetime)) = collects ≡ true
-IsMild collects (events.Backup name bind) = Unit {0}
-IsMild collects (events.Restore name image inv) = Unit {0}
+IsMild collects (events.Comes name inv (comings.Fresh dsa)) = Unit {0}
+IsMild collects (events.Comes name inv (comings.Restored image)) = Unit {0}
+IsMild collects (events.Calls name what) = IsMildCall collects what
+IsMild collects (events.Binds name (mades.Ask partner max version) bind) = Unit {0}
+IsMild collects (events.Binds name (mades.Serve request) bind) = Unit {0}
+IsMild collects (events.Binds name mades.Backup bind) = Unit {0}
+IsMild collects (events.Goes name what) = Unit {0}
 IsMild collects e = ⊥
 
 abbrev pub AreMild : Bool → List Event → Type 0
@@ -71,11 +79,13 @@ module _ (collects : Bool) where
 
   backed_up_mild : (n k : ℕ) → AreMild collects (backed_up n k)
   unfolding backed_up
-  backed_up_mild n k = mild_where (k == 2 * n) (events.Backup (codes "B") (codes "image") ∷ []) (tt, tt)
+  backed_up_mild n k = mild_where (k == 2 * n) (events.Binds (codes "B") mades.Backup (codes "image") ∷ []) (tt, tt)
 
   restored_mild : (n k : ℕ) → AreMild collects (restored n k)
   unfolding restored
-  restored_mild n k = mild_where (k == 3 * n) (events.Cycle (codes "A") (codes "B") 50 ∷ events.Restore (codes "B") (codes "image") (identifier 0xb2) ∷ events.Cycle (codes "B") (codes "A") 50 ∷ []) (tt, (tt, (tt, tt)))
+  restored_mild n k = mild_where (k == 3 * n) (
+      events.Goes (codes "A") (exchanges.Cycle (codes "B") 50) ∷ events.Comes (codes "B") (identifier 0xb2) (comings.Restored (codes "image"))
+      ∷ events.Goes (codes "B") (exchanges.Cycle (codes "A") 50) ∷ []) (tt, (tt, (tt, tt)))
 
   added_mild : (k : ℕ) → IsMild collects (person_added k)
   unfolding person_added
@@ -93,7 +103,7 @@ module _ (collects : Bool) where
   unfolding exchanged
   exchanged_mild k p q luck = by (luck == 0)
     where
-      by : (b : Bool) → AreMild collects (if b then lost k p q else events.Pull (controller p) (controller q) 3 ∷ [])
+      by : (b : Bool) → AreMild collects (if b then lost k p q else events.Goes (controller p) (exchanges.Pull (controller q) 3) ∷ [])
       by true = lost_mild k p q
       by false = (tt, tt)
 
@@ -133,17 +143,8 @@ collections_mild = (tt, (refl, (refl, (refl, (refl, tt)))))
 -- ---- what follows
 
 mild_put_nothing_back : (collects : Bool) (e : Event) → IsMild collects e → puts_back e ≡ false
-mild_put_nothing_back collects (events.Controller name dsa inv) is = refl
-mild_put_nothing_back collects (events.Time now) is = refl
-mild_put_nothing_back collects (events.Calls name (calls.Write what)) is = refl
-mild_put_nothing_back collects (events.Ask name partner max version bind) is = refl
-mild_put_nothing_back collects (events.Serve name request bind) is = refl
-mild_put_nothing_back collects (events.Pull name source max) is = refl
-mild_put_nothing_back collects (events.Cycle name source max) is = refl
-mild_put_nothing_back collects (events.Calls name (calls.Collect lifetime)) is = refl
-mild_put_nothing_back collects (events.Backup name bind) is = refl
-mild_put_nothing_back collects (events.Restore name image inv) is = refl
-mild_put_nothing_back collects e is = absurd is
+mild_put_nothing_back collects (events.Uses name what bind) is = absurd is
+mild_put_nothing_back collects e is = refl
 
 pub nothing_put_back : (collects : Bool) (es : List Event) → AreMild collects es → PutsNothingBack es
 nothing_put_back collects [] are e m = absurd m

@@ -2,10 +2,13 @@
 use Rattle.std.proofs.Common.{◌≡◌, ◌⊎◌, inl, inr, ⊎_elim, ℕ, List, [], ◌∷◌, ◌++◌, Bool, true, false, Option, Some, None, Result, Ok, Err, refl, sym, subst, fold, if◌then◌else◌}
 use Rattle.adr_call.specs.declared.outcome.Outcome.TheVariants as outcomes
 use Rattle.adr_call.specs.declared.refusal.AdoptRefusal.{AdoptRefusal}
-use Rattle.adr_call.specs.declared.write.Write.{Write as Asked}
+use Rattle.adr_call.specs.declared.write.Write.{Write}
+use Rattle.adr_call.specs.declared.call.Call.{Call as Asked}
 use Rattle.adr_call.specs.declared.call.Call.TheVariants as calls
 use Rattle.adr_call.specs.declared.event.Event.{Event}
 use Rattle.adr_call.specs.declared.event.Event.TheVariants as events
+use Rattle.adr_call.specs.declared.event.Coming.TheVariants as comings
+use Rattle.adr_call.specs.declared.event.Made.TheVariants as mades
 use Rattle.adr_model.specs.Member.{Member, Each}
 use Rattle.adr_model.specs.Update.{Identifier}
 use Rattle.adr_model.specs.Store.{Store, State, empty_state}
@@ -13,26 +16,27 @@ use Rattle.adr_model.specs.Change.{Change, after}
 use Rattle.adr_model.specs.Lengths.{new_log, area_fits}
 use Rattle.adr_model.specs.Serve.{Reply, is_quarantined}
 use Rattle.adr_model.specs.Write.{write_meant}
+use Rattle.adr_model.specs.Client.{call_meant}
 use Rattle.adr_model.specs.Collect.{woken, adopt, backup}
 use Rattle.adr_model.specs.Replica.{Call, ToWrite, ToTake, ToCollect, ToQuarantine, change_of, Replica, Book, on_new_disk, begun, Settle, moved, moves_of_commit, moves_of_start, standing_after, Failed, Down, commit_goes, start_goes, device_after_commit, device_after_start, device_settled, Device, Standing}
 use Rattle.adr_model.specs.World.{Name, World, Gone, Sent, stays, nothing, bound_at, replica_at, with_replica, of_made, of_controller, of_image, backed_up, adopts}
-use Rattle.adr_model.specs.Cycles.{pulls, reply_limit, pull_version}
+use Rattle.adr_model.specs.Cycles.{pulls, pull_version}
 use Rattle.adr_model.specs.Step.{gives, step, after_lines}
 use Rattle.adr_model.proofs.Members.{member_of_either}
 use Rattle.adr_law_calls.proofs.Woken.{adopted_is_woken}
 use Rattle.adr_law_convergence.proofs.Called.{IsKeptBehind, calls_so, asks_so, serves_so, delivers_so}
-use Rattle.adr_law_convergence.proofs.Exchanges.{IsKeptByCalls, worlds_alone, pull_so, pulls_so}
+use Rattle.adr_law_convergence.proofs.Exchanges.{IsKeptByCalls, worlds_alone, pulls_so, goes_so}
 use Rattle.adr_law_convergence.proofs.Found.{bound_member, each_bound, in_place}
 use Rattle.adr_law_convergence.proofs.Moves.{settling, starting, committing}
 use Rattle.adr_law_convergence.proofs.Reached.{made_case, reached_case, within_case}
-use Rattle.adr_run_exercised.proofs.Mild.{IsMild, AreMild}
+use Rattle.adr_run_exercised.proofs.Mild.{IsMildCall, IsMild, AreMild}
 
 -- calls that may come keep it, a new controller has it, and one that is made of an image
 pub record IsKeptOf (K : Store → Type 0) (May : Call → Type 0) : Type 0 where
   pub begins : (dsa inv : Identifier) → K (empty_state dsa inv).store
   pub changes : (s : State) (call : Call) (c : Change) → May call → change_of s call ≡ Some c → K s.store → K (after s c).store
   pub wakes : (image : Store) (dsa inv : Identifier) → K image → K (woken image dsa inv).store
-  pub writes : (what : Asked) (now : ℕ) → May (ToWrite (write_meant what) now)
+  pub writes : (what : Write) (now : ℕ) → May (ToWrite (write_meant what) now)
   pub takes : (reply : Reply) → May (ToTake reply)
   pub shuts : May ToQuarantine
 
@@ -92,7 +96,7 @@ module _ (K : Store → Type 0) (May : Call → Type 0) (rules : IsKeptOf K May)
         by r is true = (kept, λ s e. absurd (cc))
         by r is false = (kept, λ s e. let same : r.safe.store ≡ s = cc in subst K same is)
 
-    backs_up : (name bind : Name) → AreKept K (step w (events.Backup name bind)).0
+    backs_up : (name bind : Name) → AreKept K (step w (events.Binds name mades.Backup bind)).0
     backs_up name bind = let t = of_controller w name (nothing w) (λ r. backed_up w (backup r.safe)) in let is = images name in
         (is.0.0, each_bound K t.0.images bind t.2 is.0.1 is.1)
 
@@ -118,17 +122,20 @@ module _ (K : Store → Type 0) (May : Call → Type 0) (rules : IsKeptOf K May)
   pub cycling_kept : (name source : Name) (max n : ℕ) (w : World) → AreKept K w → AreKept K (pulls n w name source max).0
   cycling_kept name source max n w kept = (pulls_so (AreKept K) (λ v q. Unit {0}) (λ v r. Unit {0}) (λ o. Unit {0}) keeps_by_calls name source max n w kept).0
 
+  may_call : (collects : Bool) (w : World) (name : Name) (what : Asked) → IsMildCall collects what → MayLine May (events.Calls name what) → May (call_meant what w.time)
+  may_call collects w name (calls.Write what) mild may = rules.writes what w.time
+  may_call collects w name (calls.Collect lifetime) mild may = may w.time
+  may_call collects w name what mild may = absurd mild
+
   line_kept : (collects : Bool) (w : World) → AreKept K w → (e : Event) → IsMild collects e → MayLine May e → AreKept K (step w e).0
-  line_kept collects w kept (events.Controller name dsa inv) mild may = (came w.replicas (on_new_disk name (empty_state dsa inv)) (rules.begins dsa inv, rules.begins dsa inv) kept.0, kept.1)
   line_kept collects w kept (events.Time now) mild may = kept
-  line_kept collects w kept (events.Calls name (calls.Write what)) mild may = calls_so (AreKept K) May w (keeps w kept) name (ToWrite (write_meant what) w.time) (rules.writes what w.time)
-  line_kept collects w kept (events.Ask name partner max version bind) mild may = asks_so (AreKept K) May w (keeps w kept) name partner max version
-  line_kept collects w kept (events.Serve name request bind) mild may = serves_so (AreKept K) May w (keeps w kept) name (bound_at w.requests request) rules.shuts
-  line_kept collects w kept (events.Pull name source max) mild may = (pull_so (AreKept K) (λ v q. Unit {0}) (λ v r. Unit {0}) (λ o. Unit {0}) keeps_by_calls name source max w kept).0
-  line_kept collects w kept (events.Cycle name source max) mild may = cycling_kept name source max reply_limit w kept
-  line_kept collects w kept (events.Calls name (calls.Collect lifetime)) mild may = calls_so (AreKept K) May w (keeps w kept) name (ToCollect w.time lifetime) (may w.time)
-  line_kept collects w kept (events.Backup name bind) mild may = backs_up w kept name bind
-  line_kept collects w kept (events.Restore name image inv) mild may = restores (gives w [] (inv ∷ [])) kept name image inv
+  line_kept collects w kept (events.Comes name inv (comings.Fresh dsa)) mild may = (came w.replicas (on_new_disk name (empty_state dsa inv)) (rules.begins dsa inv, rules.begins dsa inv) kept.0, kept.1)
+  line_kept collects w kept (events.Comes name inv (comings.Restored image)) mild may = restores (gives w [] (inv ∷ [])) kept name image inv
+  line_kept collects w kept (events.Calls name what) mild may = calls_so (AreKept K) May w (keeps w kept) name (call_meant what w.time) (may_call collects w name what mild may)
+  line_kept collects w kept (events.Binds name (mades.Ask partner max version) bind) mild may = asks_so (AreKept K) May w (keeps w kept) name partner max version
+  line_kept collects w kept (events.Binds name (mades.Serve request) bind) mild may = serves_so (AreKept K) May w (keeps w kept) name (bound_at w.requests request) rules.shuts
+  line_kept collects w kept (events.Binds name mades.Backup bind) mild may = backs_up w kept name bind
+  line_kept collects w kept (events.Goes name what) mild may = (goes_so (AreKept K) (λ v q. Unit {0}) (λ v r. Unit {0}) (λ o. Unit {0}) keeps_by_calls (λ n d v. tt) name what w kept).0
   line_kept collects w kept e mild may = absurd mild
 
   pub lines_kept : (collects : Bool) (es : List Event) (w : World) → AreMild collects es → MayLines May es → AreKept K w → AreKept K (after_lines w es)

@@ -9,12 +9,24 @@ use Rattle.std.proofs.lemmas.Str.{is_utf8-from_IsUtf8}
 use Rattle.adr_disk.specs.declared.memory.Crash.TheVariants.{Kept, Lost, Torn}
 use Rattle.adr_values.specs.Assignments.{Given}
 use Rattle.adr_values.specs.declared.content.Value.{Value as Item}
+use Rattle.adr_call.specs.declared.write.Write.{Write as Written}
 use Rattle.adr_call.specs.declared.write.Write.TheVariants.{Add, Modify}
+use Rattle.adr_call.specs.declared.call.Call.{Call}
 use Rattle.adr_call.specs.declared.report.Report.{Report as Asked}
-use Rattle.adr_call.specs.declared.report.Report.TheVariants.{Meta}
+use Rattle.adr_call.specs.declared.report.Report.TheVariants.{Directory}
 use Rattle.adr_call.specs.declared.event.Event.{Event}
 use Rattle.adr_call.specs.declared.call.Call.TheVariants.{Write}
-use Rattle.adr_call.specs.declared.event.Event.TheVariants.{Calls, Ask, Ring, StopAfter, Report}
+use Rattle.adr_call.specs.declared.event.Event.TheVariants.{Time, Comes, Calls, Uses, Binds, Asks, Goes, Meets}
+use Rattle.adr_call.specs.declared.event.Coming.{Coming}
+use Rattle.adr_call.specs.declared.event.Coming.TheVariants.{Fresh}
+use Rattle.adr_call.specs.declared.event.Use.{Use}
+use Rattle.adr_call.specs.declared.event.Use.TheVariants.{Deliver}
+use Rattle.adr_call.specs.declared.event.Made.{Made}
+use Rattle.adr_call.specs.declared.event.Made.TheVariants.{Ask}
+use Rattle.adr_call.specs.declared.event.Exchange.{Exchange}
+use Rattle.adr_call.specs.declared.event.Exchange.TheVariants.{Ring}
+use Rattle.adr_call.specs.declared.event.Meeting.{Meeting}
+use Rattle.adr_call.specs.declared.event.Meeting.TheVariants.{StopAfter}
 use Rattle.adr_call.specs.Verbs.{verb_of, word_of}
 use Rattle.adr_call.specs.declared.verb.Verb.{Verb}
 use Rattle.adr_token.specs.Words.{unspaced}
@@ -31,7 +43,7 @@ use Rattle.adr_token.proofs.SetBytes.{set_holds, set_starts}
 use Rattle.adr_schedule.specs.Limits.{text_limit}
 use Rattle.adr_schedule.specs.Lines.{is_line_feed, lines_of}
 use Rattle.adr_schedule.specs.Commands.{event_of, is_passed}
-use Rattle.adr_schedule.specs.Grammar.{Token, Word, Name, Number, Identifier, Class, Attribute, Quoted, Set, sets, named, given_by, tokens_asked, tokens_behind, tokens_in, tokens_of, AreRising, AreSpelled, HasLine, HaveSpellings, IsAllowed, IsSpelled, Spells}
+use Rattle.adr_schedule.specs.Grammar.{Token, Word, Name, Number, Identifier, Class, Attribute, Quoted, Set, sets, named, given_by, tokens_asked, tokens_behind, tokens_called, tokens_coming, tokens_going, tokens_made, tokens_met, tokens_used, tokens_written, tokens_in, tokens_of, AreRising, AreSpelled, HasLine, HaveSpellings, IsAllowed, IsSpelled, Spells}
 use Rattle.adr_schedule.specs.Seen.{Seen, nothing_seen, cause_after, seen_after, IsFollowing}
 use Rattle.adr_schedule.specs.Events.{events_from, events_of, line_after}
 use Rattle.adr_run_print.specs.Printed.{AllowedEventsHaveLines, EventsAreReadAgain, PrintedEventsAreRead, joined, line_of, printed, spaced, token_text}
@@ -106,7 +118,7 @@ names_text (name ∷ names) = ap (λ (rest : List (List ℕ)). name ∷ rest) (n
 
 -- what a report wants beside a name
 asked_seen : (what : Asked) → list_all is_seen (tokens_asked what) ≡ true
-asked_seen (Meta guid) = refl
+asked_seen Directory = refl
 asked_seen what = refl
 
 -- the word of a version
@@ -114,18 +126,48 @@ version_seen : (first : Bool) → list_all is_seen (if first then Word (codes "v
 version_seen true = refl
 version_seen false = refl
 
+coming_seen : (inv : List ℕ) (how : Coming) → list_all is_seen (tokens_coming inv how) ≡ true
+coming_seen inv (Fresh dsa) = refl
+coming_seen inv how = refl
+
+write_seen : (order : List Given) (what : Written) → list_all is_seen (tokens_written order what) ≡ true
+write_seen order (Add guid class parent text values) = sets_seen order
+write_seen order (Modify guid values) = sets_seen order
+write_seen order what = refl
+
+call_seen : (order : List Given) (what : Call) → list_all is_seen (tokens_called order what) ≡ true
+call_seen order (Write what) = write_seen order what
+call_seen order what = refl
+
+use_seen : (what : Use) (bound : List ℕ) → list_all is_seen (tokens_used what bound) ≡ true
+use_seen Deliver bound = refl
+use_seen what bound = refl
+
+made_seen : (what : Made) (bound : List ℕ) → list_all is_seen (tokens_made what bound) ≡ true
+made_seen (Ask partner max version) bound = version_seen (version == 1)
+made_seen what bound = refl
+
+going_seen : (name : List ℕ) (what : Exchange) → list_all is_seen (tokens_going name what) ≡ true
+going_seen name (Ring others rounds max) = names_seen others
+going_seen name what = refl
+
+met_seen : (what : Meeting) → list_all is_seen (tokens_met what) ≡ true
+met_seen (StopAfter calls Kept) = refl
+met_seen (StopAfter calls Lost) = refl
+met_seen (StopAfter calls Torn) = refl
+met_seen what = refl
+
 -- so are the words of an event
 behind_seen : (order : List Given) (e : Event) → list_all is_seen (tokens_behind order e) ≡ true
 unfolding tokens_behind
-behind_seen order (Calls name (Write (Add guid class parent text values))) = sets_seen order
-behind_seen order (Calls name (Write (Modify guid values))) = sets_seen order
-behind_seen order (Ask name partner max version bound) = version_seen (version == 1)
-behind_seen order (Ring name others rounds max) = names_seen others
-behind_seen order (StopAfter name calls Kept) = refl
-behind_seen order (StopAfter name calls Lost) = refl
-behind_seen order (StopAfter name calls Torn) = refl
-behind_seen order (Report name what) = asked_seen what
-behind_seen order e = refl
+behind_seen order (Time now) = refl
+behind_seen order (Comes name inv how) = coming_seen inv how
+behind_seen order (Calls name what) = call_seen order what
+behind_seen order (Uses name what bound) = use_seen what bound
+behind_seen order (Binds name what bound) = made_seen what bound
+behind_seen order (Asks name what) = asked_seen what
+behind_seen order (Goes name what) = going_seen name what
+behind_seen order (Meets name what) = met_seen what
 
 verb_word_seen : (verb : Verb) → is_seen (Word (word_of verb)) ≡ true
 verb_word_seen verb = let seen = verb_seen verb in and_from _ _ seen.0 (lt-ltb 0 (length (word_of verb)) seen.1)

@@ -35,17 +35,17 @@ output_split (e ∷ before) after w =
     ∙ sym (append_assoc (flat_map line (step w e).1) (output_from (step w e).0 before) (output_from (after_lines (step w e).0 before) after))
     ∙ ap (λ (xs : List ℕ). xs ++ output_from (after_lines (step w e).0 before) after) (sym (output_next w e before))
 
-show_output : (w : World) (r : Replica) (after : List Event) → IsSoundWorld w → Member r w.replicas → r.standing ≡ Up → output_from w (events.Report r.name Directory ∷ after) ≡ view_line w r ++ output_from w after
+show_output : (w : World) (r : Replica) (after : List Event) → IsSoundWorld w → Member r w.replicas → r.standing ≡ Up → output_from w (events.Asks r.name Directory ∷ after) ≡ view_line w r ++ output_from w after
 show_output w r after sound m up =
-    output_next w (events.Report r.name Directory) after
+    output_next w (events.Asks r.name Directory) after
     ∙ ap (λ (t : World × List _). flat_map line t.1 ++ output_from t.0 after) (show_so w r sound m up)
     ∙ ap (λ (xs : List ℕ). xs ++ output_from w after) (append-nil (view_line w r))
 
-shown_at : (es before after : List Event) (r : Replica) → es ≡ before ++ events.Report r.name Directory ∷ after → IsSoundWorld (behind before) → Member r (behind before).replicas → r.standing ≡ Up
+shown_at : (es before after : List Event) (r : Replica) → es ≡ before ++ events.Asks r.name Directory ∷ after → IsSoundWorld (behind before) → Member r (behind before).replicas → r.standing ≡ Up
     → output_from empty_world es ≡ output_from empty_world before ++ view_line (behind before) r ++ output_from (behind before) after
 shown_at es before after r is sound m up =
     ap (output_from empty_world) is
-    ∙ output_split before (events.Report r.name Directory ∷ after) empty_world
+    ∙ output_split before (events.Asks r.name Directory ∷ after) empty_world
     ∙ ap (λ (xs : List ℕ). output_from empty_world before ++ xs) (show_output (behind before) r after sound m up)
     ∙ sym (append_assoc (output_from empty_world before) (view_line (behind before) r) (output_from (behind before) after))
 
@@ -53,10 +53,10 @@ shown_at es before after r is sound m up =
 pub at_each_show : (text : List ℕ) (P : List ℕ → Type 0) → P (outcome text).1 → AtEachShow text P
 unfolding outcome
 at_each_show text P p before after r said m up clean =
-    let is = schedules_read text (before ++ events.Report r.name Directory ∷ after) said in
-    let may = following_may (before ++ events.Report r.name Directory ∷ after) (text_follows text (before ++ events.Report r.name Directory ∷ after) is) in
-    let sound = (runs_are_sound before (first_may before (events.Report r.name Directory ∷ after) empty_world may)).sound clean in
-    subst P (ap (λ t. (outcome_of t).1) is ∙ shown_at (before ++ events.Report r.name Directory ∷ after) before after r refl sound m up) p
+    let is = schedules_read text (before ++ events.Asks r.name Directory ∷ after) said in
+    let may = following_may (before ++ events.Asks r.name Directory ∷ after) (text_follows text (before ++ events.Asks r.name Directory ∷ after) is) in
+    let sound = (runs_are_sound before (first_may before (events.Asks r.name Directory ∷ after) empty_world may)).sound clean in
+    subst P (ap (λ t. (outcome_of t).1) is ∙ shown_at (before ++ events.Asks r.name Directory ∷ after) before after r refl sound m up) p
 
 -- the same of what was written for a text that was told
 pub told_shown : (left before after : Option (List ℕ)) → IfSome left (λ text. Adds before after (outcome text).1) → IfSome left (λ text. AtEachShow text (Adds before after))

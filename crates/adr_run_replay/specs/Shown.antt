@@ -21,6 +21,6 @@ view_line w r = line (answer (codes "show") r.name (outcomes.Show (directory (in
 -- what the lines before give, the directory of the issued updates that the controller covers or holds, and what the others give
 abbrev pub AtEachShow : List ℕ → (List ℕ → Type 0) → Type 0
 AtEachShow text P =
-    (before after : List Event) (r : Replica) → IsSchedule text (before ++ events.Report r.name Directory ∷ after)
+    (before after : List Event) (r : Replica) → IsSchedule text (before ++ events.Asks r.name Directory ∷ after)
     → Member r (behind before).replicas → r.standing ≡ Up → (behind before).clean ≡ true
     → P (output_from empty_world before ++ view_line (behind before) r ++ output_from (behind before) after)

@@ -1,23 +1,22 @@
 -- Controllers that come of images, and disks that are put back.
-use Rattle.std.proofs.Common.{◌≡◌, ◌∙◌, sym, ap, ℕ, List, [], ◌∷◌, ◌++◌, slice_set, Option, Some, None, false, codes}
+use Rattle.std.proofs.Common.{◌≡◌, ◌∙◌, sym, ap, ℕ, List, [], ◌∷◌, ◌++◌, slice_set, Option, Some, None, false}
 use Rattle.std.specs.Prelude.{slice_get}
 use Rattle.adr_call.specs.declared.outcome.Outcome.{Outcome}
 use Rattle.adr_call.specs.declared.outcome.Outcome.TheVariants as outcomes
-use Rattle.adr_call.specs.declared.event.Event.TheVariants.{Install, Restore}
+use Rattle.adr_call.specs.declared.event.Coming.TheVariants.{Installed, Restored}
 use Rattle.adr_model.specs.Update.{Identifier}
 use Rattle.adr_model.specs.Replica.{Replica, begun, on_disk}
 use Rattle.adr_model.specs.World.{World, Name, Sent, Snapshot, of_made, put_back, replica_at, stays, with_replica}
-use Rattle.adr_model.specs.Step.{gives, step, told, told_bound}
+use Rattle.adr_model.specs.Step.{comes, gives, made_bound}
 use Rattle.adr_law_convergence.proofs.Found.{replica_found}
 use Rattle.adr_run_world.specs.declared.run.Run.{Run}
 use Rattle.adr_run_world.specs.Adopted.{adoption}
 use Rattle.adr_run_world.specs.Run.{AreApart, IsTidy, world_of}
 use Rattle.adr_run_world.proofs.Places.{apart_still, placed}
 
--- a line that binds what was made, by what comes of its call
-pub bound_so : {A : Type 0} (verb : List ℕ) (name : Name) (t : Sent A) (binds : World → Option A → World) (v : World) (o : Outcome) (x : Option A) → t ≡ (v, o, x)
-    → told_bound verb name t binds ≡ told verb name (binds v x, o)
-bound_so {A = A} verb name t binds v o x sent = ap (λ (s : Sent A). told_bound verb name s binds) sent
+-- what was made is bound, by what comes of its call
+pub bound_so : {A : Type 0} (t : Sent A) (binds : World → Option A → World) (v : World) (o : Outcome) (x : Option A) → t ≡ (v, o, x) → made_bound t binds ≡ (binds v x, o)
+bound_so {A = A} t binds v o x sent = ap (λ (s : Sent A). made_bound s binds) sent
 
 -- a restore, by what comes of its image
 module _ (w : World) (name image : Name) (inv : Identifier) where
@@ -25,21 +24,21 @@ module _ (w : World) (name image : Name) (inv : Identifier) where
   abbrev given : World
   given = gives w [] (inv ∷ [])
 
-  abbrev comes : Replica → World × Outcome
-  comes r = adoption w.images image name r.safe.dsa inv given (with_replica w.replicas)
+  abbrev adopts_it : Replica → World × Outcome
+  adopts_it r = adoption w.images image name r.safe.dsa inv given (with_replica w.replicas)
 
-  pub restored_step : (r : Replica) (o : Outcome) (v : World) → replica_at w name ≡ Some r → adoption w.images image name r.safe.dsa inv (gives w [] (inv ∷ [])) (with_replica w.replicas) ≡ (v, o)
-      → step w (Restore name image inv) ≡ told (codes "restore") name (v, o)
-  restored_step r o v found is = ap (told (codes "restore") name) (ap (λ x. of_made (stays given) x comes) found ∙ is)
+  pub restored_so : (r : Replica) (o : Outcome) (v : World) → replica_at w name ≡ Some r → adoption w.images image name r.safe.dsa inv (gives w [] (inv ∷ [])) (with_replica w.replicas) ≡ (v, o)
+      → comes w name inv (Restored image) ≡ (v, o)
+  restored_so r o v found is = ap (λ x. of_made (stays given) x adopts_it) found ∙ is
 
-  pub restore_absent : replica_at w name ≡ None → step w (Restore name image inv) ≡ told (codes "restore") name (gives w [] (inv ∷ []), outcomes.Absent)
-  restore_absent none = ap (λ x. told (codes "restore") name (of_made (stays given) x comes)) none
+  pub restore_absent : replica_at w name ≡ None → comes w name inv (Restored image) ≡ (gives w [] (inv ∷ []), outcomes.Absent)
+  restore_absent none = ap (λ x. of_made (stays given) x adopts_it) none
 
 -- an installation, by what comes of its image
-pub installed_step : (w : World) (name : Name) (dsa : Identifier) (image : Name) (inv : Identifier) (o : Outcome) (v : World)
+pub installed_so : (w : World) (name : Name) (dsa : Identifier) (image : Name) (inv : Identifier) (o : Outcome) (v : World)
     → adoption w.images image name dsa inv (gives w (dsa ∷ []) (inv ∷ [])) (λ r. w.replicas ++ r ∷ []) ≡ (v, o)
-    → step w (Install name dsa image inv) ≡ told (codes "install") name (v, o)
-installed_step w name dsa image inv o v is = ap (told (codes "install") name) is
+    → comes w name inv (Installed dsa image) ≡ (v, o)
+installed_so w name dsa image inv o v is = is
 
 -- the world in which one more controller begins
 pub begun_last : (w : World) (dsa inv : Identifier) (made : Replica) (v : World) → made.safe.dsa ≡ dsa → made.safe.inv ≡ inv

@@ -22,3 +22,7 @@ line_so w v e d r is all = IfOk-weaker r _ _ (λ o one. one_so w v e d o is one)
 -- the line of a call, by what comes of the call
 pub call_so : {X : Type 0} (verb : List ℕ) (name : Name) (g : Gone) (v : World) (r : Result Outcome X) → IfOk r (λ o. g ≡ (v, o)) → IfOk r (λ o. told verb name g ≡ told verb name (v, o))
 call_so verb name g v r all = IfOk-weaker r _ _ (λ o gone. ap (told verb name) gone) all
+
+-- what comes of a call, by which of its kind it is
+pub of_kind : {K X : Type 0} (does : K → Gone) (k l : K) (v : World) (r : Result Outcome X) → k ≡ l → IfOk r (λ o. does l ≡ (v, o)) → IfOk r (λ o. does k ≡ (v, o))
+of_kind does k l v r is all = subst (λ x. IfOk r (λ o. does x ≡ (v, o))) (sym is) all

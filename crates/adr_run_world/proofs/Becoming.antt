@@ -4,7 +4,8 @@ use Rattle.std.specs.Prelude.{Result, IfOk, slice_get, slice_index_or}
 use Rattle.std.proofs.lemmas.Result.{IfOk-weaker}
 use Rattle.adr_call.specs.declared.outcome.Outcome.{Outcome}
 use Rattle.adr_call.specs.declared.outcome.Outcome.TheVariants as outcomes
-use Rattle.adr_call.specs.declared.event.Event.TheVariants.{Start}
+use Rattle.adr_call.specs.declared.event.Event.TheVariants.{Meets}
+use Rattle.adr_call.specs.declared.event.Meeting.TheVariants.{Start}
 use Rattle.adr_disk.specs.declared.memory.Plan.{Plan}
 use Rattle.adr_model.specs.Replica.{Replica, Up}
 use Rattle.adr_model.specs.World.{World, Name, Gone, Sent, replica_at, of_made, of_controller, where_up, stays, nothing, with_plan, with_replica}
@@ -99,7 +100,7 @@ module _ {r : Run} {name : Name} {i : ℕ} {d new : Replica} {later : Past} (b :
   done v is = sym (is ∙ became)
 
   -- nothing of a start is done, or its sync
-  pub start_short : IsUndone d r.past new later ⊎ ((d.standing ≢ Up) × IsDone d r.past (λ w. synced w d) new later) → IsCutShort (world_of r) (Start name) (run_with r i new later)
+  pub start_short : IsUndone d r.past new later ⊎ ((d.standing ≢ Up) × IsDone d r.past (λ w. synced w d) new later) → IsCutShort (world_of r) (Meets name Start) (run_with r i new later)
   start_short (inl none) = inl (undone none)
   start_short (inr (not_up, all)) = inr (d, there, not_up, done (synced (world_of r) d) (all (world_of r) stands))
 

@@ -1,15 +1,15 @@
 -- What lines bound to names is in its ranges, and what comes of it.
-use Rattle.std.proofs.Common.{◌≡◌, ◌∙◌, ◌⊎◌, sym, ap, subst, inl, inr, ℕ, List, [], ◌∷◌, Option, Some, None, codes}
+use Rattle.std.proofs.Common.{◌≡◌, ◌∙◌, ◌⊎◌, sym, ap, subst, inl, inr, ℕ, List, [], ◌∷◌, Option, Some, None}
 use Rattle.std.specs.Prelude.{IfSome}
 use Rattle.adr_call.specs.declared.answer.Answer.{Answer}
 use Rattle.adr_call.specs.declared.outcome.Outcome.{Outcome}
-use Rattle.adr_call.specs.declared.event.Event.TheVariants.{Serve}
+use Rattle.adr_call.specs.declared.event.Made.TheVariants.{Serve}
 use Rattle.adr_model.specs.Spelled.{IsSpelledReply}
 use Rattle.adr_law_recorded.specs.Ranged.{IsRangedRequest, IsRangedReply}
 use Rattle.adr_model.specs.Member.{Member, Each}
 use Rattle.adr_model.specs.Serve.{Request, Reply}
 use Rattle.adr_model.specs.World.{Name, World, Sent, bound, bound_at, serves_request, answer}
-use Rattle.adr_model.specs.Step.{told, told_bound, step}
+use Rattle.adr_model.specs.Step.{made_bound, makes}
 use Rattle.adr_model.proofs.Members.{member_of_either}
 use Rattle.adr_law_convergence.proofs.Found.{bound_member}
 use Rattle.adr_run_world.specs.Run.{AreRanged, AreSpelled}
@@ -34,8 +34,8 @@ each_bound {A = A} P xs name (Some a) all new = λ x m. by x (member_of_either x
 pub headed : (made : Answer) (v n verb : List ℕ) (name : Name) (o : Outcome) → made ≡ answer v n o → (v ≡ verb) × (n ≡ name) → made ≡ answer verb name o
 headed made v n verb name o is made_of = is ∙ ap (λ x. answer x n o) made_of.0 ∙ ap (λ x. answer verb x o) made_of.1
 
--- the line of a serve, by what comes of its request
+-- the reply of a serve is bound, by what comes of its request
 module _ (w : World) (name request bind : Name) where
-  pub served_step : (v : World) (x : Outcome) (r : Option Reply) → serves_request w name (bound_at w.requests request) ≡ (v, x, r)
-      → step w (Serve name request bind) ≡ told (codes "serve") name (record v { replies = bound v.replies bind r }, x)
-  served_step v x r served = ap (λ (t : Sent Reply). told_bound (codes "serve") name t (λ v p. record v { replies = bound v.replies bind p })) served
+  pub served_bound : (v : World) (x : Outcome) (r : Option Reply) → serves_request w name (bound_at w.requests request) ≡ (v, x, r)
+      → makes w name (Serve request) bind ≡ (record v { replies = bound v.replies bind r }, x)
+  served_bound v x r served = ap (λ (t : Sent Reply). made_bound t (λ v p. record v { replies = bound v.replies bind p })) served

@@ -3,6 +3,8 @@ use Rattle.std.proofs.Common.{◌≡◌, inl, inr, ℕ, List, Bool, true, false,
 use Rattle.adr_call.specs.declared.answer.Answer.{Answer}
 use Rattle.adr_call.specs.declared.event.Event.{Event}
 use Rattle.adr_call.specs.declared.event.Event.TheVariants as events
+use Rattle.adr_call.specs.declared.event.Exchange.TheVariants as exchanges
+use Rattle.adr_call.specs.declared.event.Meeting.TheVariants as meetings
 use Rattle.adr_model.specs.World.{World, Name}
 use Rattle.adr_model.specs.Cycles.{Pulled, pull, cycle}
 use Rattle.adr_model.specs.Step.{step}
@@ -22,7 +24,7 @@ use Rattle.adr_run_world.specs.Pulls.{IsCycleTurn, IsTurn}
 use Rattle.adr_run_world.specs.Run.{IsSoundRun, IsTidy, world_of}
 use Rattle.adr_run_world.specs.Short.{IsMidway, IsCutShort}
 
-cycle_completed : (w : World) (name source : Name) (max : ℕ) → IsSoundWorld w → IsCompletedBy w (events.Cycle name source max) (cycle w name source max).1 (cycle w name source max).0
+cycle_completed : (w : World) (name source : Name) (max : ℕ) → IsSoundWorld w → IsCompletedBy w (events.Goes name (exchanges.Cycle source max)) (cycle w name source max).1 (cycle w name source max).0
 cycle_completed w name source max sound d s may d_is s_is most unlimited =
     subst (λ (n : Name). Ends n source) d_is (subst (λ (n : Name). Ends d.name n) s_is (cycle_ends w d s max sound may most)) unlimited
   where
@@ -30,12 +32,12 @@ cycle_completed w name source max sound d s may d_is s_is most unlimited =
     Ends n m = AreUnlimited (cycle w n m max).1 → EndsOrSaysMore w d s (cycle w n m max).1 (cycle w n m max).0
 
 completes : (w : World) (e : Event) → IsSoundWorld w → IsCompletedBy w e (step w e).1 (step w e).0
-completes w (events.Cycle name source max) sound = cycle_completed w name source max sound
+completes w (events.Goes name (exchanges.Cycle source max)) sound = cycle_completed w name source max sound
 completes w e sound = tt
 
 -- the answer of a ring tells true
 rung_so : (w : World) (e : Event) → RingsTell w → IsRungBy w e (step w e).1
-rung_so w (events.Ring first others rounds max) tell = λ directories vectors is. tell first others rounds max directories vectors is
+rung_so w (events.Goes first (exchanges.Ring others rounds max)) tell = λ directories vectors is. tell first others rounds max directories vectors is
 rung_so w e tell = tt
 
 module _ (w : World) (e : Event) (run : IsWorldOfRun w) (may : MayHappen w e) where
@@ -58,7 +60,7 @@ module _ (w : World) (e : Event) (run : IsWorldOfRun w) (may : MayHappen w e) wh
 
 -- the world behind a pull
 pulled_of_run : (w v : World) (dest source : Name) (max : ℕ) → IsWorldOfRun w → v ≡ (pull w dest source max).0 → IsWorldOfRun v
-pulled_of_run w v dest source max run is = stays_sound w (events.Pull dest source max) run tt v is
+pulled_of_run w v dest source max run is = stays_sound w (events.Goes dest (exchanges.Pull source max)) run tt v is
 
 cycle_turned_of_run : (w : World) (dest source : Name) (max turn : ℕ) (p : Pulled) → IsWorldOfRun w → IsCycleTurn turn w dest source max p → IsWorldOfRun p.0
 cycle_turned_of_run w dest source max turn p run (inl is) = pulled_of_run w p.0 dest source max run (ap (λ (q : Pulled). q.0) is.1)
@@ -69,7 +71,7 @@ whole_of_run w e p run may is = behind_of_run w e run may p.0 (ap (λ (q : Pulle
 
 -- the world behind a turn
 turned_of_run : (w : World) (e : Event) (turn : ℕ) (p : Pulled) → IsWorldOfRun w → MayHappen w e → IsTurn turn w e p → IsWorldOfRun p.0
-turned_of_run w (events.Cycle dest source max) turn p run may is = cycle_turned_of_run w dest source max turn p run is
+turned_of_run w (events.Goes dest (exchanges.Cycle source max)) turn p run may is = cycle_turned_of_run w dest source max turn p run is
 turned_of_run w e turn p run may is = whole_of_run w e p run may is
 
 pub turned_sound : {r v : Run} (e : Event) (turn : ℕ) (more : List Answer) (goes_on : Bool) → IsSoundRun r → MayHappen (world_of r) e → IsTurn turn (world_of r) e (world_of v, more, goes_on) → IsTidy v
@@ -78,8 +80,8 @@ turned_sound {r} {v} e turn more goes_on sound may turned tidy = record { of_run
 
 -- the world behind a start, or a ring, that was cut short
 midway_of_run : (w : World) (e : Event) (v : World) → IsWorldOfRun w → MayHappen w e → IsMidway w e v → IsWorldOfRun v
-midway_of_run w (events.Start name) v run may (r, at, not_up, is) = subst IsWorldOfRun (sym is) (cut_short_sound w r run (replica_found w name r at).0 not_up)
-midway_of_run w (events.Ring name others rounds max) v run may way = stays_sound w (events.Ring name others rounds max) run may v way
+midway_of_run w (events.Meets name meetings.Start) v run may (r, at, not_up, is) = subst IsWorldOfRun (sym is) (cut_short_sound w r run (replica_found w name r at).0 not_up)
+midway_of_run w (events.Goes name (exchanges.Ring others rounds max)) v run may way = stays_sound w (events.Goes name (exchanges.Ring others rounds max)) run may v way
 midway_of_run w e v run may midway = absurd midway
 
 -- and behind any line that wanted memory

@@ -6,9 +6,19 @@ use Rattle.std.proofs.lemmas.List.Elements.{All-append, All-cons, All-nil}
 use Rattle.adr_call.specs.declared.answer.Answer.{Answer}
 use Rattle.adr_call.specs.declared.event.Event.{Event}
 use Rattle.adr_call.specs.declared.event.Event.TheVariants as events
+use Rattle.adr_call.specs.declared.event.Coming.{Coming}
+use Rattle.adr_call.specs.declared.event.Coming.TheVariants as comings
+use Rattle.adr_call.specs.declared.event.Use.{Use}
+use Rattle.adr_call.specs.declared.event.Use.TheVariants as used
+use Rattle.adr_call.specs.declared.event.Made.{Made}
+use Rattle.adr_call.specs.declared.event.Made.TheVariants as mades
+use Rattle.adr_call.specs.declared.event.Exchange.{Exchange}
+use Rattle.adr_call.specs.declared.event.Exchange.TheVariants as exchanges
+use Rattle.adr_call.specs.declared.event.Meeting.{Meeting}
+use Rattle.adr_call.specs.declared.event.Meeting.TheVariants as meetings
 use Rattle.adr_call.specs.declared.verb.Verb.{Verb}
 use Rattle.adr_call.specs.declared.verb.Verb.TheVariants as verbs
-use Rattle.adr_call.specs.Verbs.{verb_of_call, word_of}
+use Rattle.adr_call.specs.Verbs.{verb_of_call, verb_of_coming, verb_of_made, verb_of_meeting, verb_of_use, word_of}
 use Rattle.adr_call.specs.declared.outcome.Outcome.{Outcome}
 use Rattle.adr_call.specs.declared.outcome.Outcome.TheVariants as outcomes
 use Rattle.adr_model.specs.Client.{call_meant}
@@ -16,51 +26,25 @@ use Rattle.adr_model.specs.Collect.{adopt}
 use Rattle.adr_model.specs.Cycles.{Pulled, and_then, pull, pull_asked, pull_served, pull_version, pulls, reply_limit}
 use Rattle.adr_model.specs.Serve.{Reply, Request}
 use Rattle.adr_model.specs.Store.{Store}
-use Rattle.adr_model.specs.Replica.{ToWrite}
-use Rattle.adr_model.specs.Step.{gives, step, told}
-use Rattle.adr_model.specs.World.{Name, Snapshot, World, answer, asks, bound_at, does, nothing, of_image, replica_at, serves_request, stays, with_replica}
+use Rattle.adr_model.specs.Replica.{Replica, ToWrite}
+use Rattle.adr_model.specs.Step.{comes, gives, goes, makes, meets, step, told, uses}
+use Rattle.adr_model.specs.World.{Gone, Name, Snapshot, World, answer, asks, bound_at, does, nothing, of_made, replica_at, serves_request, stays, with_replica}
 use Rattle.adr_model.specs.Write.{Revive}
 use Rattle.adr_answers.specs.Room.{IsWithin, result_room}
 use Rattle.adr_run_world.specs.Pulls.{IsCycleTurn, IsTurn}
-use Rattle.adr_run_world.specs.Room.{names_room, room_beside}
-use Rattle.adr_run_world.proofs.Brief.{IsBrief, IsBriefly, IsSentBriefly, absent_brief, adopts_brief, asks_brief, backup_brief, called_brief, delivers_brief, does_brief, gone_otherwise, image_brief, made_brief, more_brief, ok_brief, put_back_brief, sent_otherwise, serves_brief, starts_brief}
+use Rattle.adr_run_world.specs.Room.{names_room, parties_room, room_beside}
+use Rattle.adr_run_world.proofs.Brief.{IsBrief, IsBriefly, IsSentBriefly, adopts_brief, asks_brief, backup_brief, called_brief, delivers_brief, does_brief, gone_otherwise, image_brief, made_brief, more_brief, ok_brief, put_back_brief, sent_otherwise, serves_brief, starts_brief}
 
 -- a report may have any length, and the answer of a ring may have another's name
 abbrev pub MayLack : Event → Type 0
-MayLack (events.Report name what) = Unit {0}
-MayLack (events.Ring name others rounds max) = Unit {0}
+MayLack (events.Asks name what) = Unit {0}
+MayLack (events.Goes name (exchanges.Ring others rounds max)) = Unit {0}
 MayLack e = ⊥
 
+-- by the words alone, whatever verbs there are
 word_passes : (v : Verb) → nat_le (length (word_of v)) 46 ≡ true
 word_passes verbs.Controller = refl
-word_passes verbs.Time = refl
-word_passes verbs.Add = refl
-word_passes verbs.Modify = refl
-word_passes verbs.Rename = refl
-word_passes verbs.Delete = refl
-word_passes verbs.Link = refl
-word_passes verbs.Unlink = refl
-word_passes verbs.Ask = refl
-word_passes verbs.Serve = refl
-word_passes verbs.Deliver = refl
-word_passes verbs.Pull = refl
-word_passes verbs.Cycle = refl
-word_passes verbs.Ring = refl
-word_passes verbs.Collect = refl
-word_passes verbs.Upgrade = refl
-word_passes verbs.Revive = refl
-word_passes verbs.Backup = refl
-word_passes verbs.Restore = refl
-word_passes verbs.Install = refl
-word_passes verbs.Snapshot = refl
-word_passes verbs.Rollback = refl
-word_passes verbs.Stop = refl
-word_passes verbs.Fail = refl
-word_passes verbs.Start = refl
-word_passes verbs.Show = refl
-word_passes verbs.Vector = refl
-word_passes verbs.Marks = refl
-word_passes verbs.Meta = refl
+word_passes v = refl
 
 word_short : (v : Verb) → length (word_of v) ≤ 46
 word_short v = leb-true (length (word_of v)) 46 (word_passes v)
@@ -106,46 +90,55 @@ module _ (names room : ℕ) (enough : names + room_beside ≤ room) where
     cycle_turn_fits turn w max p (inl is) = subst (λ (q : Pulled). All (IsWithin room) q.1) (sym is.1) (pull_fits w max)
     cycle_turn_fits turn w max p (inr is) = subst (λ (q : Pulled). All (IsWithin room) q.1) (sym is.1) more_fits
 
+-- how each kind of line goes
+
+coming_brief : (w : World) (name : Name) (inv : List ℕ) (how : Coming) → IsBriefly (comes w name inv how)
+coming_brief w name inv (comings.Fresh dsa) = ok_brief
+coming_brief w name inv (comings.Installed dsa image) =
+    let v = gives w (dsa ∷ []) (inv ∷ []) in
+    image_brief v (bound_at v.images image) _ (λ i. adopts_brief v (λ r. v.replicas ++ r ∷ []) name (adopt i dsa inv))
+coming_brief w name inv (comings.Restored image) =
+    let v = gives w [] (inv ∷ []) in
+    made_brief IsBriefly (stays v) (gone_otherwise v) (replica_at v name) _ (λ r. image_brief v (bound_at v.images image) _ (λ i. adopts_brief v (with_replica v.replicas) name (adopt i r.safe.dsa inv)))
+
+use_brief : (w : World) (name : Name) (what : Use) (bind : Name) → IsBriefly (uses w name what bind)
+use_brief w name used.Deliver bind = delivers_brief w name (bound_at w.replies bind)
+use_brief w name (used.Revive guid parent text) bind = image_brief w (bound_at w.images bind) _ (λ i. does_brief w name (ToWrite (Revive i guid parent text) w.time))
+use_brief w name used.Rollback bind = made_brief IsBriefly (stays w) (gone_otherwise w) (replica_at w name) _ (λ r. put_back_brief w name (bound_at w.snapshots bind))
+
+making_brief : (w : World) (name : Name) (what : Made) (bind : Name) → IsBriefly (makes w name what bind)
+making_brief w name (mades.Ask partner max version) bind = asks_brief w name partner max version
+making_brief w name (mades.Serve request) bind = serves_brief w name (bound_at w.requests request)
+making_brief w name mades.Backup bind = called_brief IsSentBriefly (nothing w) (sent_otherwise w Store) w name _ (λ r. backup_brief w _)
+making_brief w name mades.Snapshot bind = made_brief IsSentBriefly (nothing w) (sent_otherwise w Snapshot) (replica_at w name) _ (λ r. ok_brief)
+
+meeting_brief : (w : World) (r : Replica) (what : Meeting) → IsBriefly (meets w r what)
+meeting_brief w r meetings.Stop = ok_brief
+meeting_brief w r meetings.Start = starts_brief w r r.standing
+meeting_brief w r (meetings.StopAfter calls how) = ok_brief
+meeting_brief w r (meetings.Fail calls) = ok_brief
+
 module _ (room : ℕ) where
-  revived_fits : (w : World) (name : Name) (guid : List ℕ) (image : Name) (parent text : List ℕ) (i : Option Store) → length name + room_beside ≤ room
-      → All (IsWithin room) (told (codes "revive") name (of_image w i (λ x. does w name (ToWrite (Revive x guid parent text) w.time)))).1
-  revived_fits w name guid image parent text None enough = one (length name) room enough (codes "revive") name _ (word_short verbs.Revive) (omega arith) absent_brief
-  revived_fits w name guid image parent text (Some i) enough = one (length name) room enough (codes "revive") name _ (word_short verbs.Revive) (omega arith) (does_brief w name (ToWrite (Revive i guid parent text) w.time))
+  -- a line with one answer
+  one_fits : (v : Verb) (name : Name) (g : Gone) → length name + room_beside ≤ room → IsBriefly g → All (IsWithin room) (told (word_of v) name g).1
+  one_fits v name g enough brief = one (length name) room enough (word_of v) name g.1 (word_short v) (omega arith) brief
+
+  going_fits : (w : World) (name : Name) (what : Exchange) → parties_room name what + room_beside ≤ room → MayLack (events.Goes name what) ⊎ All (IsWithin room) (goes w name what).1
+  going_fits w name (exchanges.Pull source max) enough = inr (pull_fits (length name + length source) room enough name source (omega arith) (omega arith) w max)
+  going_fits w name (exchanges.Cycle source max) enough = inr (pulls_fit (length name + length source) room enough name source (omega arith) (omega arith) reply_limit w max)
+  going_fits w name (exchanges.Ring others rounds max) enough = inl tt
 
   step_fits : (w : World) (e : Event) → names_room e + room_beside ≤ room → MayLack e ⊎ All (IsWithin room) (step w e).1
-  step_fits w (events.Controller name dsa inv) enough = inr (one (length name) room enough (codes "controller") name _ (word_short verbs.Controller) (omega arith) ok_brief)
   step_fits w (events.Time now) enough = inr (All-nil (IsWithin room))
-  step_fits w (events.Calls name what) enough = inr (one (length name) room enough (word_of (verb_of_call what)) name _ (word_short (verb_of_call what)) (omega arith) (does_brief w name (call_meant what w.time)))
-  step_fits w (events.Ask name partner max version bind) enough = inr (one (length name) room enough (codes "ask") name _ (word_short verbs.Ask) (omega arith) (asks_brief w name partner max version))
-  step_fits w (events.Serve name request bind) enough = inr (one (length name) room enough (codes "serve") name _ (word_short verbs.Serve) (omega arith) (serves_brief w name (bound_at w.requests request)))
-  step_fits w (events.Deliver name reply) enough = inr (one (length name) room enough (codes "deliver") name _ (word_short verbs.Deliver) (omega arith) (delivers_brief w name (bound_at w.replies reply)))
-  step_fits w (events.Pull name source max) enough = inr (pull_fits (length name + length source) room enough name source (omega arith) (omega arith) w max)
-  step_fits w (events.Cycle name source max) enough = inr (pulls_fit (length name + length source) room enough name source (omega arith) (omega arith) reply_limit w max)
-  step_fits w (events.Ring name others rounds max) enough = inl tt
-  step_fits w (events.Revive name guid image parent text) enough = inr (revived_fits w name guid image parent text (bound_at w.images image) enough)
-  step_fits w (events.Backup name bind) enough =
-      inr (one (length name) room enough (codes "backup") name _ (word_short verbs.Backup) (omega arith) (called_brief IsSentBriefly (nothing w) (sent_otherwise w Store) w name _ (λ r. backup_brief w _)))
-  step_fits w (events.Restore name image inv) enough =
-      let v = gives w [] (inv ∷ []) in
-      inr (one (length name) room enough (codes "restore") name _ (word_short verbs.Restore) (omega arith)
-      (made_brief IsBriefly (stays v) (gone_otherwise v) (replica_at v name) _ (λ r. image_brief v (bound_at v.images image) _ (λ i. adopts_brief v (with_replica v.replicas) name (adopt i r.safe.dsa inv)))))
-  step_fits w (events.Install name dsa image inv) enough =
-      let v = gives w (dsa ∷ []) (inv ∷ []) in
-      inr (one (length name) room enough (codes "install") name _ (word_short verbs.Install) (omega arith) (image_brief v (bound_at v.images image) _ (λ i. adopts_brief v (λ r. v.replicas ++ r ∷ []) name (adopt i dsa inv))))
-  step_fits w (events.Snapshot name bind) enough =
-      inr (one (length name) room enough (codes "snapshot") name _ (word_short verbs.Snapshot) (omega arith) (made_brief IsSentBriefly (nothing w) (sent_otherwise w Snapshot) (replica_at w name) _ (λ r. ok_brief)))
-  step_fits w (events.Rollback name snapshot) enough =
-      inr (one (length name) room enough (codes "rollback") name _ (word_short verbs.Rollback) (omega arith)
-      (made_brief IsBriefly (stays w) (gone_otherwise w) (replica_at w name) _ (λ r. put_back_brief w name (bound_at w.snapshots snapshot))))
-  step_fits w (events.StopAfter name calls how) enough =
-      inr (one (length name) room enough (codes "stop") name _ (word_short verbs.Stop) (omega arith) (made_brief IsBriefly (stays w) (gone_otherwise w) (replica_at w name) _ (λ r. ok_brief)))
-  step_fits w (events.Fail name calls) enough =
-      inr (one (length name) room enough (codes "fail") name _ (word_short verbs.Fail) (omega arith) (made_brief IsBriefly (stays w) (gone_otherwise w) (replica_at w name) _ (λ r. ok_brief)))
-  step_fits w (events.Stop name) enough =
-      inr (one (length name) room enough (codes "stop") name _ (word_short verbs.Stop) (omega arith) (made_brief IsBriefly (stays w) (gone_otherwise w) (replica_at w name) _ (λ r. ok_brief)))
-  step_fits w (events.Start name) enough =
-      inr (one (length name) room enough (codes "start") name _ (word_short verbs.Start) (omega arith) (made_brief IsBriefly (stays w) (gone_otherwise w) (replica_at w name) _ (λ r. starts_brief w r r.standing)))
-  step_fits w (events.Report name what) enough = inl tt
+  step_fits w (events.Comes name inv how) enough = inr (one_fits (verb_of_coming how) name (comes w name inv how) enough (coming_brief w name inv how))
+  step_fits w (events.Calls name what) enough = inr (one_fits (verb_of_call what) name (does w name (call_meant what w.time)) enough (does_brief w name (call_meant what w.time)))
+  step_fits w (events.Uses name what bind) enough = inr (one_fits (verb_of_use what) name (uses w name what bind) enough (use_brief w name what bind))
+  step_fits w (events.Binds name what bind) enough = inr (one_fits (verb_of_made what) name (makes w name what bind) enough (making_brief w name what bind))
+  step_fits w (events.Asks name what) enough = inl tt
+  step_fits w (events.Goes name what) enough = going_fits w name what enough
+  step_fits w (events.Meets name what) enough =
+      inr (one_fits (verb_of_meeting what) name (of_made (stays w) (replica_at w name) (λ r. meets w r what)) enough
+      (made_brief IsBriefly (stays w) (gone_otherwise w) (replica_at w name) _ (λ r. meeting_brief w r what)))
 
   whole_fits : (w : World) (e : Event) (p : Pulled) → p ≡ ((step w e).0, (step w e).1, false) → MayLack e ⊎ All (IsWithin room) (step w e).1 → MayLack e ⊎ All (IsWithin room) p.1
   whole_fits w e p is (inl may) = inl may
@@ -153,6 +146,6 @@ module _ (room : ℕ) where
 
   -- the answers of a turn
   pub turn_fits : (turn : ℕ) (w : World) (e : Event) (p : Pulled) → names_room e + room_beside ≤ room → IsTurn turn w e p → MayLack e ⊎ All (IsWithin room) p.1
-  turn_fits turn w (events.Cycle name source max) p enough is =
+  turn_fits turn w (events.Goes name (exchanges.Cycle source max)) p enough is =
       inr (cycle_turn_fits (length name + length source) room enough name source (omega arith) (omega arith) turn w max p is)
   turn_fits turn w e p enough is = whole_fits w e p is (step_fits w e enough)

@@ -4,6 +4,7 @@ use Rattle.std.specs.Prelude.{All, flat_map}
 use Rattle.adr_call.specs.declared.answer.Answer.{Answer}
 use Rattle.adr_call.specs.declared.event.Event.{Event}
 use Rattle.adr_call.specs.declared.event.Event.TheVariants as events
+use Rattle.adr_call.specs.declared.event.Exchange.TheVariants as exchanges
 use Rattle.adr_call.specs.declared.report.Report.{Report}
 use Rattle.adr_io.specs.Told.{Adds}
 use Rattle.adr_law_convergence.proofs.Lines.{behind_is_on_the_way}
@@ -32,7 +33,7 @@ none_written first now next told more none single added (n, within, front) =
     adds_more first now next [] [] (subst (λ (list : List Answer). Adds first now (flat_map line list)) none added) so
 
 -- a report changes nothing
-report_stays : (w : World) (name : Name) (what : Report) → (step w (events.Report name what)).0 ≡ w
+report_stays : (w : World) (name : Name) (what : Report) → (step w (events.Asks name what)).0 ≡ w
 report_stays w name what = called_brief (λ (g : Gone). g.0 ≡ w) (stays w) (λ o is. refl) w name _ (λ r. refl)
 
 compared_once : (first : Name) (others : List Name) (rounds : ℕ) (v : World) (left : Option Answer) → length (compared first others rounds v left).1 ≡ 1
@@ -41,13 +42,14 @@ compared_once first others rounds v (Some a) = refl
 
 module _ (first now next : Option (List ℕ)) (told : List Answer) (added : Adds first now (flat_map line told)) where
   lacking : (w : World) (e : Event) (turn : ℕ) (v : World) (p : Pulled) → IsFirst w e v told → IsTurn turn v e p → MayLack e → AddsFirstLines now next p.1 → IsUndoneBy w e p.0 first next
-  lacking w (events.Report name what) turn v p begin is may front =
+  lacking w (events.Asks name what) turn v p begin is may front =
       let single : length p.1 ≡ 1 = ap (λ (q : Pulled). length q.1) is in
       (inl (ap (λ (q : Pulled). q.0) is ∙ report_stays v name what ∙ begin.0), none_written first now next told p.1 begin.1 single added front)
-  lacking w (events.Ring name others rounds max) turn v p begin is may front =
+  lacking w (events.Goes name (exchanges.Ring others rounds max)) turn v p begin is may front =
+      let e : Event = events.Goes name (exchanges.Ring others rounds max) in
       let single : length p.1 ≡ 1 = ap (λ (q : Pulled). length q.1) is ∙ compared_once name others rounds _ _ in
-      let behind : p.0 ≡ (step w (events.Ring name others rounds max)).0 = ap (λ (q : Pulled). q.0) is ∙ ap (λ (x : World). (step x (events.Ring name others rounds max)).0) begin.0 in
-      (inr (subst (λ (x : World). IsOnTheWay w (events.Ring name others rounds max) x) (sym behind) (behind_is_on_the_way w (events.Ring name others rounds max))), none_written first now next told p.1 begin.1 single added front)
+      let behind : p.0 ≡ (step w e).0 = ap (λ (q : Pulled). q.0) is ∙ ap (λ (x : World). (step x e).0) begin.0 in
+      (inr (subst (λ (x : World). IsOnTheWay w e x) (sym behind) (behind_is_on_the_way w e)), none_written first now next told p.1 begin.1 single added front)
   lacking w e turn v p begin is may front = absurd may
 
 pub undone_lines : {w : World} {e : Event} {turn : ℕ} {v : World} {first now : Option (List ℕ)} {Wants : Type 0} (t : AreTold w e turn v first now) (next : Option (List ℕ)) (p : Pulled) (list : List Answer) → list ≡ p.1

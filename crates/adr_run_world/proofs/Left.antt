@@ -4,6 +4,8 @@ use Rattle.std.specs.Prelude.{flat_map}
 use Rattle.adr_call.specs.declared.answer.Answer.{Answer}
 use Rattle.adr_call.specs.declared.event.Event.{Event}
 use Rattle.adr_call.specs.declared.event.Event.TheVariants as events
+use Rattle.adr_call.specs.declared.event.Exchange.TheVariants as exchanges
+use Rattle.adr_call.specs.declared.event.Meeting.TheVariants as meetings
 use Rattle.adr_io.specs.Told.{Adds, AddsFront}
 use Rattle.adr_model.specs.World.{World}
 use Rattle.adr_model.specs.Cycles.{Pulled}
@@ -40,16 +42,17 @@ module _ (w : World) (e : Event) (turn : ℕ) (v : World) (all : List Answer) (f
 
 -- a start has one turn, and so has a ring
 midway_first : (w : World) (e : Event) (v u : World) (told : List Answer) → IsFirst w e v told → IsMidway v e u → IsMidway w e u × (told ≡ [])
-midway_first w (events.Start name) v u told first midway = (subst (λ (x : World). IsMidway x (events.Start name) u) first.0 midway, first.1)
-midway_first w (events.Ring name others rounds max) v u told first midway = (subst (λ (x : World). IsMidway x (events.Ring name others rounds max) u) first.0 midway, first.1)
+midway_first w (events.Meets name meetings.Start) v u told first midway = (subst (λ (x : World). IsMidway x (events.Meets name meetings.Start) u) first.0 midway, first.1)
+midway_first w (events.Goes name (exchanges.Ring others rounds max)) v u told first midway = (subst (λ (x : World). IsMidway x (events.Goes name (exchanges.Ring others rounds max)) u) first.0 midway, first.1)
 midway_first w e v u told first midway = absurd midway
 
 -- where whole turns were done, and one more wanted memory
 undone_by : (w : World) (e : Event) (turn : ℕ) (v : World) (told : List Answer) (first now : Option (List ℕ)) → IsSoFar w e turn v told → Adds first now (flat_map line told) → (u : World) → IsCutShort v e u
     → IsUndoneBy w e u first now
-undone_by w (events.Cycle name source max) turn v told first now so added u (inl same) =
-    (turn, so.within, subst (λ (x : World × List Answer). IsTold x u first now) (sym (turns_so_far w (events.Cycle name source max) turn v told so)) (same, added))
-undone_by w (events.Cycle name source max) turn v told first now so added u (inr midway) = absurd midway
+undone_by w (events.Goes name (exchanges.Cycle source max)) turn v told first now so added u (inl same) =
+    let e : Event = events.Goes name (exchanges.Cycle source max) in
+    (turn, so.within, subst (λ (x : World × List Answer). IsTold x u first now) (sym (turns_so_far w e turn v told so)) (same, added))
+undone_by w (events.Goes name (exchanges.Cycle source max)) turn v told first now so added u (inr midway) = absurd midway
 undone_by w e turn v told first now so added u cut =
     (subst (λ (x : World). IsCutShort x e u) so.first.0 cut, subst (λ (list : List Answer). Adds first now (flat_map line list)) so.first.1 added)
 

@@ -4,6 +4,7 @@ use Rattle.std.specs.Prelude.{slice_get}
 use Rattle.adr_call.specs.declared.answer.Answer.{Answer}
 use Rattle.adr_call.specs.declared.outcome.Outcome.TheVariants as outcomes
 use Rattle.adr_call.specs.declared.event.Event.TheVariants as events
+use Rattle.adr_call.specs.declared.event.Exchange.TheVariants as exchanges
 use Rattle.adr_model.specs.World.{World, Name, answer}
 use Rattle.adr_model.specs.Cycles.{Pulled, and_then, pull, pulls, cycle}
 use Rattle.adr_model.specs.Rings.{unfinished, or_else, Connection, cycles, last_of, in_line, ring, times, show_alike, vectors_alike, compared, rings}
@@ -60,7 +61,7 @@ module _ (w : World) (dest source : Name) (max : ℕ) where
 
   -- wherever a cycle stands, the world is that of a run
   pub amid_of_run : IsWorldOfRun w → (v : World) → IsAmidPulls w dest source max v → IsWorldOfRun v
-  amid_of_run run v way = stays_sound w (events.Cycle dest source max) run tt v way
+  amid_of_run run v way = stays_sound w (events.Goes dest (exchanges.Cycle source max)) run tt v way
 
 -- ---- cycles one after the other
 

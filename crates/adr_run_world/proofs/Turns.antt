@@ -6,6 +6,7 @@ use Rattle.adr_call.specs.declared.answer.Answer.{Answer}
 use Rattle.adr_call.specs.declared.outcome.Outcome.TheVariants as outcomes
 use Rattle.adr_call.specs.declared.event.Event.{Event}
 use Rattle.adr_call.specs.declared.event.Event.TheVariants as events
+use Rattle.adr_call.specs.declared.event.Exchange.TheVariants as exchanges
 use Rattle.adr_model.specs.World.{Name, World, answer}
 use Rattle.adr_model.specs.Cycles.{Pulled, and_then, pull, pulls, reply_limit}
 use Rattle.adr_model.specs.Step.{step}
@@ -19,12 +20,12 @@ said told t = (t.0, told ++ t.1)
 
 -- what is left of a line: of a cycle at most so many pulls, and of any other line the whole
 abbrev pub rest_of : ℕ → World → Event → World × List Answer
-rest_of n w (events.Cycle name source max) = pulls n w name source max
+rest_of n w (events.Goes name (exchanges.Cycle source max)) = pulls n w name source max
 rest_of n w e = step w e
 
 -- a line that is no cycle has one turn, and stands before it
 abbrev pub IsFirst : World → Event → World → List Answer → Type 0
-IsFirst w (events.Cycle name source max) v told = Unit {0}
+IsFirst w (events.Goes name (exchanges.Cycle source max)) v told = Unit {0}
 IsFirst w e v told = (v ≡ w) × (told ≡ [])
 
 -- so many turns of a line came to this, and the others may come
@@ -41,7 +42,7 @@ IsBehind w e turn u all true = IsSoFar w e (turn + 1) u all
 IsBehind w e turn u all false = step w e ≡ (u, all)
 
 begins : (w : World) (e : Event) → IsFirst w e w []
-begins w (events.Cycle name source max) = tt
+begins w (events.Goes name (exchanges.Cycle source max)) = tt
 begins w e = (refl, refl)
 
 -- before the first turn
@@ -68,13 +69,17 @@ module _ (dest source : Name) (max : ℕ) (go : ℕ → World → World × List 
   last_one is limit below = let same : limit ≡ suc (limit - (turn + 1)) + turn = omega arith in
       ap (λ k. go k w) same ∙ next_pull false is (limit - (turn + 1))
 
-module _ (dest source : Name) (max : ℕ) (w v : World) (turn : ℕ) (told : List Answer) (so : IsSoFar w (events.Cycle dest source max) turn v told) where
-  behind_pull : (b : Bool) (u : World) (more : List Answer) → turn < reply_limit → pull v dest source max ≡ (u, more, b) → IsBehind w (events.Cycle dest source max) turn u (told ++ more) b
+-- a line that pulls a cycle
+abbrev cycle_of : Name → Name → ℕ → Event
+cycle_of dest source max = events.Goes dest (exchanges.Cycle source max)
+
+module _ (dest source : Name) (max : ℕ) (w v : World) (turn : ℕ) (told : List Answer) (so : IsSoFar w (cycle_of dest source max) turn v told) where
+  behind_pull : (b : Bool) (u : World) (more : List Answer) → turn < reply_limit → pull v dest source max ≡ (u, more, b) → IsBehind w (cycle_of dest source max) turn u (told ++ more) b
   behind_pull true u more below is = record {
     may = tt;
     first = tt;
     within = omega arith;
-    done = one_more dest source max (λ n x. turns n x (events.Cycle dest source max)) (λ n x. refl) w v u turn told more so.done is;
+    done = one_more dest source max (λ n x. turns n x (cycle_of dest source max)) (λ n x. refl) w v u turn told more so.done is;
     left = one_more dest source max (λ n x. pulls n x dest source max) (λ n x. refl) w v u turn told more so.left is;
   }
   behind_pull false u more below is = last_one dest source max (λ n x. pulls n x dest source max) (λ n x. refl) w v u turn told more so.left is reply_limit below
@@ -82,20 +87,20 @@ module _ (dest source : Name) (max : ℕ) (w v : World) (turn : ℕ) (told : Lis
   runs_out : (limit : ℕ) → turn ≡ limit → pulls limit w dest source max ≡ (v, told ++ answer (codes "cycle") dest outcomes.More ∷ [])
   runs_out limit is = let same : limit ≡ 0 + turn = omega arith in ap (λ k. pulls k w dest source max) same ∙ so.left 0
 
-  behind_cycle_turn : (p : Pulled) → IsCycleTurn turn v dest source max p → IsBehind w (events.Cycle dest source max) turn p.0 (told ++ p.1) p.2
+  behind_cycle_turn : (p : Pulled) → IsCycleTurn turn v dest source max p → IsBehind w (cycle_of dest source max) turn p.0 (told ++ p.1) p.2
   behind_cycle_turn p (inl is) = behind_pull p.2 p.0 p.1 is.0 (sym is.1)
   behind_cycle_turn p (inr is) =
       let most : turn ≤ reply_limit = so.within in
       let least : reply_limit ≤ turn = is.0 in
       let at : turn ≡ reply_limit = omega arith in
-      subst (λ (q : Pulled). IsBehind w (events.Cycle dest source max) turn q.0 (told ++ q.1) q.2) (sym is.1) (runs_out reply_limit at)
+      subst (λ (q : Pulled). IsBehind w (cycle_of dest source max) turn q.0 (told ++ q.1) q.2) (sym is.1) (runs_out reply_limit at)
 
 behind_whole : (w v : World) (e : Event) (turn : ℕ) (told : List Answer) (p : Pulled) → step w e ≡ said told (step v e) → p ≡ ((step v e).0, (step v e).1, false) → IsBehind w e turn p.0 (told ++ p.1) p.2
 behind_whole w v e turn told p left is = subst (λ (q : Pulled). IsBehind w e turn q.0 (told ++ q.1) q.2) (sym is) left
 
 -- behind a turn
 pub behind : (w : World) (e : Event) (turn : ℕ) (v : World) (told : List Answer) (p : Pulled) → IsSoFar w e turn v told → IsTurn turn v e p → IsBehind w e turn p.0 (told ++ p.1) p.2
-behind w (events.Cycle dest source max) turn v told p so is = behind_cycle_turn dest source max w v turn told so p is
+behind w (events.Goes dest (exchanges.Cycle source max)) turn v told p so is = behind_cycle_turn dest source max w v turn told so p is
 behind w e turn v told p so is = behind_whole w v e turn told p (so.left 0) is
 
 module _ (w : World) (e : Event) (turn : ℕ) (v : World) (told : List Answer) (p : Pulled) (so : IsSoFar w e turn v told) (is : IsTurn turn v e p) where
@@ -109,7 +114,7 @@ module _ (w : World) (e : Event) (turn : ℕ) (v : World) (told : List Answer) (
 
 -- a line is what is left of it before its first turn
 whole : (w : World) (e : Event) → step w e ≡ rest_of reply_limit w e
-whole w (events.Cycle dest source max) = refl
+whole w (events.Goes dest (exchanges.Cycle source max)) = refl
 whole w e = refl
 
 module _ (w : World) (e : Event) (turn : ℕ) where

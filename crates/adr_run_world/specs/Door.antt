@@ -3,6 +3,7 @@ use Rattle.std.specs.Prelude.{◌≡◌, ◌<◌, ◌≤◌, ◌⊎◌, ℕ, zer
 use Rattle.adr_call.specs.declared.answer.Answer.{Answer}
 use Rattle.adr_call.specs.declared.event.Event.{Event}
 use Rattle.adr_call.specs.declared.event.Event.TheVariants as events
+use Rattle.adr_call.specs.declared.event.Exchange.TheVariants as exchanges
 use Rattle.adr_io.specs.Told.{Adds, AddsFront}
 use Rattle.adr_model.specs.Replica.{Replica}
 use Rattle.adr_model.specs.World.{World}
@@ -16,7 +17,7 @@ use Rattle.adr_run_world.specs.Short.{IsCutShort, IsMidway}
 -- what so many turns of a line come to: of a cycle so many pulls, and any other line is one turn
 abbrev pub turns : ℕ → World → Event → World × List Answer
 turns zero w e = (w, [])
-turns (suc n) w (events.Cycle name source max) = and_then (pull w name source max) (λ v. turns n v (events.Cycle name source max))
+turns (suc n) w (events.Goes name (exchanges.Cycle source max)) = and_then (pull w name source max) (λ v. turns n v (events.Goes name (exchanges.Cycle source max)))
 turns (suc n) w e = step w e
 
 -- this is done, and a front of the lines of its answers is written, and nothing else
@@ -53,12 +54,12 @@ IsShortBy w e v before after =
 -- what want of memory leaves of a line where the sink wants none: nothing is done but of a start or a ring, and nothing is written;
 -- and of a cycle the pulls are done whose answers are written
 abbrev pub IsUndoneBy : World → Event → World → Option (List ℕ) → Option (List ℕ) → Type 0
-IsUndoneBy w (events.Cycle name source max) v before after = (n : ℕ) × (n ≤ reply_limit) × IsTold (turns n w (events.Cycle name source max)) v before after
+IsUndoneBy w (events.Goes name (exchanges.Cycle source max)) v before after = (n : ℕ) × (n ≤ reply_limit) × IsTold (turns n w (events.Goes name (exchanges.Cycle source max))) v before after
 IsUndoneBy w e v before after = IsCutShort w e v × Adds before after []
 
 -- a cycle between two controllers with nothing in the way, which met no limit, says that there is more, or it ended with the last
 -- reply, and the destination has everything
 abbrev pub IsCompletedBy : World → Event → List Answer → World → Type 0
-IsCompletedBy w (events.Cycle name source max) answers v =
+IsCompletedBy w (events.Goes name (exchanges.Cycle source max)) answers v =
     (d s : Replica) → MayCycle w d s → d.name ≡ name → s.name ≡ source → 1 ≤ max → AreUnlimited answers → EndsOrSaysMore w d s answers v
 IsCompletedBy w e answers v = Unit {0}

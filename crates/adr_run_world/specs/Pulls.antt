@@ -4,6 +4,7 @@ use Rattle.adr_call.specs.declared.answer.Answer.{Answer}
 use Rattle.adr_call.specs.declared.outcome.Outcome.TheVariants as outcomes
 use Rattle.adr_call.specs.declared.event.Event.{Event}
 use Rattle.adr_call.specs.declared.event.Event.TheVariants as events
+use Rattle.adr_call.specs.declared.event.Exchange.TheVariants as exchanges
 use Rattle.adr_model.specs.World.{Name, World, answer}
 use Rattle.adr_model.specs.Cycles.{Pulled, pull, reply_limit}
 use Rattle.adr_model.specs.Step.{step}
@@ -19,5 +20,5 @@ IsCycleTurn turn w dest source max p =
 
 -- any other line is one turn
 abbrev pub IsTurn : ℕ → World → Event → Pulled → Type 0
-IsTurn turn w (events.Cycle name source max) p = IsCycleTurn turn w name source max p
+IsTurn turn w (events.Goes name (exchanges.Cycle source max)) p = IsCycleTurn turn w name source max p
 IsTurn turn w e p = p ≡ ((step w e).0, (step w e).1, false)

@@ -2,6 +2,8 @@
 use Rattle.std.specs.Prelude.{◌≡◌, ◌≢◌, ◌⊎◌, Some}
 use Rattle.adr_call.specs.declared.event.Event.{Event}
 use Rattle.adr_call.specs.declared.event.Event.TheVariants as events
+use Rattle.adr_call.specs.declared.event.Exchange.TheVariants as exchanges
+use Rattle.adr_call.specs.declared.event.Meeting.TheVariants as meetings
 use Rattle.adr_model.specs.Replica.{Replica, Up}
 use Rattle.adr_model.specs.World.{World, replica_at}
 use Rattle.adr_model.specs.Convergence.{IsOnTheWay}
@@ -9,8 +11,8 @@ use Rattle.adr_run_replica.specs.Led.{synced}
 
 -- of a start the sync stands that it begins with, and of a ring some of its pulls are done
 abbrev pub IsMidway : World → Event → World → Type 0
-IsMidway w (events.Start name) v = (r : Replica) × (replica_at w name ≡ Some r) × (r.standing ≢ Up) × (v ≡ synced w r)
-IsMidway w (events.Ring first others rounds max) v = IsOnTheWay w (events.Ring first others rounds max) v
+IsMidway w (events.Meets name meetings.Start) v = (r : Replica) × (replica_at w name ≡ Some r) × (r.standing ≢ Up) × (v ≡ synced w r)
+IsMidway w (events.Goes first (exchanges.Ring others rounds max)) v = IsOnTheWay w (events.Goes first (exchanges.Ring others rounds max)) v
 IsMidway w e v = ⊥
 
 -- nothing is done, but for that

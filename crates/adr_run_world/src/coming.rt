@@ -2,11 +2,11 @@
 
 ghost use Rattle.std.specs.Prelude.{◌≡◌, ◌+◌, ◌≤◌, ◌++◌, ◌∷◌, [], codes, vec_len, IfOk, OnErr};
 ghost use Rattle.std.specs.Vec.{vec_capacity};
-ghost use Rattle.adr_call.specs.declared.event.Event.TheVariants.{Controller as NewController};
+ghost use Rattle.adr_call.specs.declared.event.Coming.TheVariants.{Fresh};
 ghost use Rattle.adr_wire.specs.Ranges.{IsId};
 ghost use Rattle.adr_model.specs.Convergence.{IsNewName};
 ghost use Rattle.adr_model.specs.Replica.{Up, begun};
-ghost use Rattle.adr_model.specs.Step.{gives, step, told};
+ghost use Rattle.adr_model.specs.Step.{comes, gives};
 ghost use Rattle.adr_run_world.specs.Run.{IsTidy, world_of};
 
 use crate::lists::put;
@@ -44,8 +44,8 @@ impl Run {
         requires dsa { IsId dsa }
         requires inv { IsId inv }
         requires new { IsNewName (world_of self.old) name.now }
-        ensures stepped { IfOk result (λ outcome.
-            step (world_of self.old) (NewController name.now dsa inv) ≡ told (codes "controller") name.now (world_of self.new, outcome)) }
+        ensures done { IfOk result (λ outcome.
+            comes (world_of self.old) name.now inv (Fresh dsa) ≡ (world_of self.new, outcome)) }
         ensures err { OnErr result (world_of self.new ≡ world_of self.old) }
         ensures tidy { IsTidy self.new }
     {

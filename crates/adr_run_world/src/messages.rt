@@ -1,12 +1,12 @@
 //! Requests and replies.
 
 ghost use Rattle.std.specs.Prelude.{◌≡◌, Some, codes, IfOk, IfSome, IsSome, OnErr, OnOk, true};
-ghost use Rattle.adr_call.specs.declared.event.Event.TheVariants.{Ask, Serve};
+ghost use Rattle.adr_call.specs.declared.event.Made.TheVariants.{Ask, Serve};
 ghost use Rattle.adr_wire.specs.Headed.{is_version};
 ghost use Rattle.adr_model.specs.Spelled.{IsSpelledReply};
 ghost use Rattle.adr_law_recorded.specs.Ranged.{IsRangedReply, IsRangedRequest};
 ghost use Rattle.adr_model.specs.Convergence.{IsUnbound};
-ghost use Rattle.adr_model.specs.Step.{step, told};
+ghost use Rattle.adr_model.specs.Step.{makes};
 ghost use Rattle.adr_model.specs.World.{asks, bound, bound_at, delivers, serves_request};
 ghost use Rattle.adr_run_world.specs.Run.{IsTidy, world_of};
 
@@ -32,8 +32,8 @@ impl Run {
         requires tidy { IsTidy self.old }
         requires version { is_version version ≡ true }
         requires unbound { IsUnbound (world_of self.old).requests bound.now }
-        ensures stepped { IfOk result (λ outcome.
-            step (world_of self.old) (Ask name.now partner.now max version bound.now) ≡ told (codes "ask") name.now (world_of self.new, outcome)) }
+        ensures done { IfOk result (λ outcome.
+            makes (world_of self.old) name.now (Ask partner.now max version) bound.now ≡ (world_of self.new, outcome)) }
         ensures err { OnErr result (world_of self.new ≡ world_of self.old) }
         ensures tidy { IsTidy self.new }
     {
@@ -76,8 +76,8 @@ impl Run {
     ) -> Result<Outcome, NoMemory>
         requires tidy { IsTidy self.old }
         requires unbound { IsUnbound (world_of self.old).replies bound.now }
-        ensures stepped { IfOk result (λ outcome.
-            step (world_of self.old) (Serve name.now request.now bound.now) ≡ told (codes "serve") name.now (world_of self.new, outcome)) }
+        ensures done { IfOk result (λ outcome.
+            makes (world_of self.old) name.now (Serve request.now) bound.now ≡ (world_of self.new, outcome)) }
         ensures err { OnErr result (world_of self.new ≡ world_of self.old) }
         ensures tidy { IsTidy self.new }
     {

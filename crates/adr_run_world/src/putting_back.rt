@@ -1,9 +1,9 @@
 //! Disks that are put aside, and put back.
 
 ghost use Rattle.std.specs.Prelude.{◌≡◌, codes, IfOk, OnErr};
-ghost use Rattle.adr_call.specs.declared.event.Event.TheVariants.{Snapshot as PutAside};
+ghost use Rattle.adr_call.specs.declared.event.Made.TheVariants.{Snapshot};
 ghost use Rattle.adr_model.specs.Convergence.{IsUnbound};
-ghost use Rattle.adr_model.specs.Step.{step, told};
+ghost use Rattle.adr_model.specs.Step.{makes};
 ghost use Rattle.adr_model.specs.World.{bound_at, of_made, put_back, replica_at, stays};
 ghost use Rattle.adr_run_world.specs.Run.{IsTidy, world_of};
 
@@ -24,8 +24,8 @@ impl Run {
     ) -> Result<Outcome, NoMemory>
         requires tidy { IsTidy self.old }
         requires unbound { IsUnbound (world_of self.old).snapshots bound.now }
-        ensures stepped { IfOk result (λ outcome.
-            step (world_of self.old) (PutAside name.now bound.now) ≡ told (codes "snapshot") name.now (world_of self.new, outcome)) }
+        ensures done { IfOk result (λ outcome.
+            makes (world_of self.old) name.now Snapshot bound.now ≡ (world_of self.new, outcome)) }
         ensures err { OnErr result (world_of self.new ≡ world_of self.old) }
         ensures tidy { IsTidy self.new }
     {

@@ -2,11 +2,12 @@
 
 ghost use Rattle.std.specs.Prelude.{◌≡◌, ◌<◌, ◌∷◌, [], codes, length, slice_set, IfOk, IsErrOf, OnErr};
 ghost use Rattle.adr_call.specs.declared.outcome.Outcome.{Outcome};
-ghost use Rattle.adr_call.specs.declared.event.Event.TheVariants.{Backup, Install, Restore};
+ghost use Rattle.adr_call.specs.declared.event.Coming.TheVariants.{Installed, Restored};
+ghost use Rattle.adr_call.specs.declared.event.Made.TheVariants.{Backup};
 ghost use Rattle.adr_wire.specs.Ranges.{IsId};
 ghost use Rattle.adr_model.specs.Convergence.{IsNewName, IsUnbound};
 ghost use Rattle.adr_model.specs.Replica.{Up, begun};
-ghost use Rattle.adr_model.specs.Step.{gives, step, told};
+ghost use Rattle.adr_model.specs.Step.{comes, gives, makes};
 ghost use Rattle.adr_run_world.specs.Adopted.{AdoptsBound, UnadoptedBound};
 ghost use Rattle.adr_run_world.specs.Run.{IsTidy, world_of};
 
@@ -23,8 +24,8 @@ impl Run {
     pub fn backup(&mut self, alloc: Global, name: &Text, bound: &Text) -> Result<Outcome, NoMemory>
         requires tidy { IsTidy self.old }
         requires unbound { IsUnbound (world_of self.old).images bound.now }
-        ensures stepped { IfOk result (λ outcome.
-            step (world_of self.old) (Backup name.now bound.now) ≡ told (codes "backup") name.now (world_of self.new, outcome)) }
+        ensures done { IfOk result (λ outcome.
+            makes (world_of self.old) name.now Backup bound.now ≡ (world_of self.new, outcome)) }
         ensures err { OnErr result (world_of self.new ≡ world_of self.old) }
         ensures tidy { IsTidy self.new }
     {
@@ -45,8 +46,8 @@ impl Run {
     ) -> Result<Outcome, NoMemory>
         requires tidy { IsTidy self.old }
         requires inv { IsId inv }
-        ensures stepped { IfOk result (λ outcome.
-            step (world_of self.old) (Restore name.now image.now inv) ≡ told (codes "restore") name.now (world_of self.new, outcome)) }
+        ensures done { IfOk result (λ outcome.
+            comes (world_of self.old) name.now inv (Restored image.now) ≡ (world_of self.new, outcome)) }
         ensures err { OnErr result (world_of self.new ≡ world_of self.old) }
         ensures tidy { IsTidy self.new }
     {
@@ -81,8 +82,8 @@ impl Run {
         requires dsa { IsId dsa }
         requires inv { IsId inv }
         requires new { IsNewName (world_of self.old) name.now }
-        ensures stepped { IfOk result (λ outcome.
-            step (world_of self.old) (Install name.now dsa image.now inv) ≡ told (codes "install") name.now (world_of self.new, outcome)) }
+        ensures done { IfOk result (λ outcome.
+            comes (world_of self.old) name.now inv (Installed dsa image.now) ≡ (world_of self.new, outcome)) }
         ensures err { OnErr result (world_of self.new ≡ world_of self.old) }
         ensures tidy { IsTidy self.new }
     {

@@ -1,10 +1,10 @@
 //! Room for the lines of answers. It is made before a turn does anything, so that no line wants memory behind what was done.
 
 ghost use Rattle.std.specs.Prelude.{◌≡◌, ◌+◌, ◌≤◌, OnOk, IfOk, length, vec_len, vec_capacity};
-ghost use Rattle.adr_run_world.specs.Room.{names_room, room_beside};
+ghost use Rattle.adr_run_world.specs.Room.{names_room, parties_room, room_beside};
 
 use adr_answers::name_of;
-use adr_call::Event;
+use adr_call::{Event, Exchange};
 use adr_values::{NoMemory, Text};
 use std::alloc::Global;
 
@@ -25,14 +25,24 @@ fn push_both(out: &mut Vec<u8>, dest: &Text, source: &Text) -> Result<(), NoMemo
     push_name(out, source)
 }
 
+/// Adds the names that the answers to pulls may have.
+fn push_parties(out: &mut Vec<u8>, name: &Text, what: &Exchange) -> Result<(), NoMemory>
+    ensures { OnOk result (vec_len out.new ≡ vec_len out.old + parties_room name.now what.now) }
+{
+    match what {
+        Exchange::Pull { source, .. } => push_both(out, name, source),
+        Exchange::Cycle { source, .. } => push_both(out, name, source),
+        Exchange::Ring { .. } => Ok(()),
+    }
+}
+
 /// Adds the names that the answers to a line may have.
 fn push_names(out: &mut Vec<u8>, event: &Event) -> Result<(), NoMemory>
     ensures { OnOk result (vec_len out.new ≡ vec_len out.old + names_room event.now) }
 {
     match event {
-        Event::Time { .. } | Event::Ring { .. } => Ok(()),
-        Event::Pull { name, source, .. } => push_both(out, name, source),
-        Event::Cycle { name, source, .. } => push_both(out, name, source),
+        Event::Time { .. } => Ok(()),
+        Event::Goes { name, what } => push_parties(out, name, what),
         _ => push_name(out, name_of(event)),
     }
 }

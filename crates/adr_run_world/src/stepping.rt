@@ -5,7 +5,9 @@ ghost use Rattle.adr_call.specs.Verbs.{name_of, verb_of, word_of};
 ghost use Rattle.adr_io.specs.Told.{Adds, AddsFront};
 ghost use Rattle.adr_law_recorded.specs.Typed.{IsTyped};
 ghost use Rattle.adr_model.specs.Convergence.{MayHappen};
-ghost use Rattle.adr_model.specs.Step.{step, told};
+ghost use Rattle.adr_model.specs.Step.{comes, makes, meets, step, told, uses};
+ghost use Rattle.adr_model.specs.World.{of_made, replica_at, stays};
+ghost use Rattle.adr_call.specs.declared.event.Event.TheVariants.{Binds, Comes, Goes, Meets, Uses};
 ghost use Rattle.adr_answers.specs.Line.{line};
 ghost use Rattle.adr_answers.specs.Room.{MayWant};
 ghost use Rattle.adr_answers.specs.Alone.{HasOneAnswer};
@@ -19,10 +21,10 @@ use crate::pulling::REPLY_LIMIT;
 use crate::room::room_for;
 use crate::run::Run;
 use adr_answers::{Heading, name_of, tell};
-use adr_call::{Answer, Event, Outcome};
+use adr_call::{Answer, Coming, Event, Exchange, Made, Meeting, Outcome, Use};
 use adr_io::{Fault, Sink};
 use adr_run_replica::Revival;
-use adr_values::NoMemory;
+use adr_values::{Guid, NoMemory, Text};
 use std::alloc::Global;
 
 impl Run {
@@ -70,24 +72,40 @@ impl Run {
         ensures tidy { IsTidy self.new }
     {
         match event {
-            Event::Cycle { name, source, max } => {
-                self.cycle_turn(alloc, name, source, *max, turn)
-            }
-            Event::Pull { name, source, max } => {
-                let (answers, _) = self.pull(alloc, name, source, *max)?;
-                Ok((answers, false))
-            }
-            Event::Ring {
-                name,
-                others,
-                rounds,
-                max,
-            } => Ok((self.ring(alloc, name, others, *rounds, *max)?, false)),
+            Event::Goes { name, what } => self.goes(alloc, name, what, turn),
             Event::Time { now } => {
                 self.time = *now;
                 Ok((Vec::new(alloc), false))
             }
             _ => Ok((self.step_alone(alloc, event)?, false)),
+        }
+    }
+
+    /// A turn of pulls, by its number from 0.
+    fn goes(
+        &mut self,
+        alloc: Global,
+        name: &Text,
+        what: &Exchange,
+        turn: u32,
+    ) -> Result<(Vec<Answer>, bool), NoMemory>
+        requires sound { IsSoundRun self.old }
+        ensures turned { IfOk result (λ told.
+            IsTurn turn (world_of self.old) (Goes name.now what.now) (world_of self.new, told.0.items, told.1)) }
+        ensures err { OnErr result (IsCutShort (world_of self.old) (Goes name.now what.now) (world_of self.new)) }
+        ensures tidy { IsTidy self.new }
+    {
+        match what {
+            Exchange::Pull { source, max } => {
+                let (answers, _) = self.pull(alloc, name, source, *max)?;
+                Ok((answers, false))
+            }
+            Exchange::Cycle { source, max } => self.cycle_turn(alloc, name, source, *max, turn),
+            Exchange::Ring {
+                others,
+                rounds,
+                max,
+            } => Ok((self.ring(alloc, name, others, *rounds, *max)?, false)),
         }
     }
 
@@ -123,52 +141,106 @@ impl Run {
         ensures tidy { IsTidy self.new }
     {
         match event {
-            Event::Controller { name, dsa, inv } => self.controller(alloc, name, *dsa, *inv),
+            Event::Comes { name, inv, how } => self.comes(alloc, name, *inv, how),
             Event::Calls { name, what } => self.called(alloc, name, what),
-            Event::Ask {
-                name,
-                partner,
-                max,
-                version,
-                bound,
-            } => self.ask(alloc, name, partner, *max, *version, bound),
-            Event::Serve {
-                name,
-                request,
-                bound,
-            } => self.serve(alloc, name, request, bound),
-            Event::Deliver { name, reply } => self.take_bound(alloc, name, reply),
-            Event::Revive {
-                name,
-                guid,
-                image,
-                parent,
-                text,
-            } => {
+            Event::Uses { name, what, bound } => self.uses(alloc, name, what, bound),
+            Event::Binds { name, what, bound } => self.makes(alloc, name, what, bound),
+            Event::Asks { name, what } => self.reported(alloc, name, *what),
+            Event::Meets { name, what } => self.meets(name, *what),
+            Event::Time { .. } | Event::Goes { .. } => unreachable!(),
+        }
+    }
+
+    /// What is answered where a controller comes to be, or comes back.
+    fn comes(
+        &mut self,
+        alloc: Global,
+        name: &Text,
+        inv: Guid,
+        how: &Coming,
+    ) -> Result<Outcome, NoMemory>
+        requires tidy { IsTidy self.old }
+        requires may { MayHappen (world_of self.old) (Comes name.now inv how.now) }
+        requires typed { IsTyped (Comes name.now inv how.now) }
+        ensures done { IfOk result (λ outcome. comes (world_of self.old) name.now inv how.now ≡ (world_of self.new, outcome)) }
+        ensures err { OnErr result (world_of self.new ≡ world_of self.old) }
+        ensures tidy { IsTidy self.new }
+    {
+        match how {
+            Coming::Fresh { dsa } => self.controller(alloc, name, *dsa, inv),
+            Coming::Installed { dsa, image } => self.install(alloc, name, *dsa, image, inv),
+            Coming::Restored { image } => self.restore(alloc, name, image, inv),
+        }
+    }
+
+    /// What a controller is answered that uses what is bound to a name.
+    fn uses(
+        &mut self,
+        alloc: Global,
+        name: &Text,
+        what: &Use,
+        bound: &Text,
+    ) -> Result<Outcome, NoMemory>
+        requires tidy { IsTidy self.old }
+        requires typed { IsTyped (Uses name.now what.now bound.now) }
+        ensures done { IfOk result (λ outcome. uses (world_of self.old) name.now what.now bound.now ≡ (world_of self.new, outcome)) }
+        ensures err { OnErr result (world_of self.new ≡ world_of self.old) }
+        ensures tidy { IsTidy self.new }
+    {
+        match what {
+            Use::Deliver => self.take_bound(alloc, name, bound),
+            Use::Revive { guid, parent, text } => {
                 let revival = Revival {
                     guid: *guid,
                     parent: *parent,
                     text,
                 };
-                self.revive(alloc, name, image, &revival)
+                self.revive(alloc, name, bound, &revival)
             }
-            Event::Backup { name, bound } => self.backup(alloc, name, bound),
-            Event::Restore { name, image, inv } => self.restore(alloc, name, image, *inv),
-            Event::Install {
-                name,
-                dsa,
-                image,
-                inv,
-            } => self.install(alloc, name, *dsa, image, *inv),
-            Event::Snapshot { name, bound } => self.snapshot(alloc, name, bound),
-            Event::Rollback { name, snapshot } => self.put_back(alloc, name, snapshot),
-            Event::StopAfter { name, calls, how } => Ok(self.stop_after(name, *calls, *how)),
-            Event::Fail { name, calls } => Ok(self.fail_after(name, *calls)),
-            Event::Stop { name } => Ok(self.stop(name)),
-            Event::Start { name } => self.start(name),
-            Event::Report { name, what } => self.reported(alloc, name, *what),
-            Event::Time { .. } | Event::Pull { .. } | Event::Cycle { .. } | Event::Ring { .. } =>
-                unreachable!(),
+            Use::Rollback => self.put_back(alloc, name, bound),
+        }
+    }
+
+    /// What a controller is answered that makes what is bound to a name.
+    fn makes(
+        &mut self,
+        alloc: Global,
+        name: &Text,
+        what: &Made,
+        bound: &Text,
+    ) -> Result<Outcome, NoMemory>
+        requires tidy { IsTidy self.old }
+        requires may { MayHappen (world_of self.old) (Binds name.now what.now bound.now) }
+        requires typed { IsTyped (Binds name.now what.now bound.now) }
+        ensures done { IfOk result (λ outcome. makes (world_of self.old) name.now what.now bound.now ≡ (world_of self.new, outcome)) }
+        ensures err { OnErr result (world_of self.new ≡ world_of self.old) }
+        ensures tidy { IsTidy self.new }
+    {
+        match what {
+            Made::Ask {
+                partner,
+                max,
+                version,
+            } => self.ask(alloc, name, partner, *max, *version, bound),
+            Made::Serve { request } => self.serve(alloc, name, request, bound),
+            Made::Backup => self.backup(alloc, name, bound),
+            Made::Snapshot => self.snapshot(alloc, name, bound),
+        }
+    }
+
+    /// What is answered where something befalls a controller or its disk.
+    fn meets(&mut self, name: &Text, what: Meeting) -> Result<Outcome, NoMemory>
+        requires { IsTidy self.old }
+        ensures done { IfOk result (λ outcome. let w = world_of self.old in
+            of_made (stays w) (replica_at w name.now) (λ r. meets w r what) ≡ (world_of self.new, outcome)) }
+        ensures err { OnErr result (IsCutShort (world_of self.old) (Meets name.now what) (world_of self.new)) }
+        ensures tidy { IsTidy self.new }
+    {
+        match what {
+            Meeting::Stop => Ok(self.stop(name)),
+            Meeting::Start => self.start(name),
+            Meeting::StopAfter { calls, how } => Ok(self.stop_after(name, calls, how)),
+            Meeting::Fail { calls } => Ok(self.fail_after(name, calls)),
         }
     }
 }

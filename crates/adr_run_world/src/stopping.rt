@@ -1,7 +1,8 @@
 //! Controllers that stop, fail and start.
 
 ghost use Rattle.std.specs.Prelude.{◌≡◌, IfOk, OnErr};
-ghost use Rattle.adr_call.specs.declared.event.Event.TheVariants.{Start};
+ghost use Rattle.adr_call.specs.declared.event.Event.TheVariants.{Meets};
+ghost use Rattle.adr_call.specs.declared.event.Meeting.TheVariants.{Start};
 ghost use Rattle.adr_disk.specs.declared.memory.Mishap.TheVariants.{Fails, Stops};
 ghost use Rattle.adr_model.specs.World.{of_made, replica_at, starts, stays, stops, with_plan};
 ghost use Rattle.adr_run_world.specs.Run.{IsTidy, world_of};
@@ -59,7 +60,7 @@ impl Run {
         requires { IsTidy self.old }
         ensures done { IfOk result (λ outcome. let w = world_of self.old in
             of_made (stays w) (replica_at w name.now) (λ r. starts w r r.standing) ≡ (world_of self.new, outcome)) }
-        ensures err { OnErr result (IsCutShort (world_of self.old) (Start name.now) (world_of self.new)) }
+        ensures err { OnErr result (IsCutShort (world_of self.old) (Meets name.now Start) (world_of self.new)) }
         ensures tidy { IsTidy self.new }
     {
         let Some(place) = self.place_of(name) else {

@@ -6,6 +6,7 @@ pub mod VerbLaws
 pub mod RisingLemmas
 pub mod LineSets
 pub mod LineNames
+pub mod FormLaws
 pub mod EventLaws
 pub mod AllowedLaws
 pub mod ScheduleLaws

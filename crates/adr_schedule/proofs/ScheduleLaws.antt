@@ -5,7 +5,13 @@ use Rattle.std.specs.Bool.{then_some}
 use Rattle.std.specs.Str.{is_utf8}
 use Rattle.std.proofs.lemmas.Bool.{le-ltb, lt-ltb, ltb-false, ltb-true}
 use Rattle.adr_call.specs.declared.event.Event.{Event}
-use Rattle.adr_call.specs.declared.event.Event.TheVariants.{Controller, Time, Calls, Ask, Serve, Deliver, Pull, Cycle, Ring, Revive, Backup, Restore, Install, Snapshot, Rollback, StopAfter, Fail, Stop, Start, Report}
+use Rattle.adr_call.specs.declared.event.Coming.{Coming}
+use Rattle.adr_call.specs.declared.event.Made.{Made}
+use Rattle.adr_call.specs.declared.event.Exchange.{Exchange}
+use Rattle.adr_call.specs.declared.event.Event.TheVariants.{Time, Comes, Calls, Uses, Binds, Asks, Goes, Meets}
+use Rattle.adr_call.specs.declared.event.Coming.TheVariants.{Fresh, Installed, Restored}
+use Rattle.adr_call.specs.declared.event.Made.TheVariants.{Ask, Serve, Backup, Snapshot}
+use Rattle.adr_call.specs.declared.event.Exchange.TheVariants.{Pull, Cycle, Ring}
 use Rattle.adr_schedule.specs.declared.fault.Cause.{Cause}
 use Rattle.adr_schedule.specs.declared.fault.Cause.TheVariants.{NotUtf8, NoCommand, UnknownName, NameUsed, IdentifierUsed, TooMany, TooLong}
 use Rattle.adr_schedule.specs.declared.fault.ScheduleFault.{ScheduleFault}
@@ -14,7 +20,7 @@ use Rattle.adr_schedule.specs.Lines.{lines_of}
 use Rattle.adr_schedule.specs.Commands.{event_of, is_passed}
 use Rattle.adr_schedule.specs.Grammar.{Spells}
 use Rattle.adr_values.specs.First.{first_of}
-use Rattle.adr_schedule.specs.Seen.{Seen, nothing_seen, cause_after, if_bound, if_full, if_given, if_inv_given, is_any_unbound, is_bound, seen_after, unless_all_bound, unless_bound, IsFollowing}
+use Rattle.adr_schedule.specs.Seen.{Seen, nothing_seen, cause_after, cause_of_coming, cause_of_going, cause_of_making, names_used, if_bound, if_full, if_given, if_inv_given, is_any_unbound, is_bound, seen_after, unless_all_bound, unless_bound, IsFollowing}
 use Rattle.adr_schedule.specs.Events.{bad, before, events_from, events_of, followed, line_after, on_line, unless}
 use Rattle.adr_schedule.specs.Schedules.{FaultyTextsAreRefused, IsCause, IsFault, IsFirstFault, LinesSay, ReadTextsAreSchedules, RefusedTextsHaveTheFault, Says, SchedulesAreRead}
 use Rattle.adr_schedule.proofs.AllowedLaws.{spelled_allowed}
@@ -153,43 +159,52 @@ given_late seen dsa inv x e = then_late (is_bound seen.dsas dsa || is_bound seen
 full_late : (seen : Seen) (x : Cause) → if_full seen ≡ Some x → is_late x ≡ true
 full_late seen x e = then_late (nat_le controller_limit (length seen.controllers)) TooMany refl x e
 
-cause_late : (seen : Seen) (e : Event) (x : Cause) → cause_after seen e ≡ Some x → is_late x ≡ true
-cause_late seen (Controller name dsa inv) x c =
+coming_late : (seen : Seen) (name inv : List ℕ) (how : Coming) (x : Cause) → cause_of_coming seen name inv how ≡ Some x → is_late x ≡ true
+coming_late seen name inv (Fresh dsa) x c =
     first_late (if_bound seen.controllers name ∷ if_given seen dsa inv ∷ if_full seen ∷ []) (bound_late seen.controllers name, (given_late seen dsa inv, (full_late seen, tt))) x c
-cause_late seen (Time now) x c = absurd (cc)
-cause_late seen (Calls name what) x c = unless_late seen.controllers name x c
-cause_late seen (Ask name partner max version bound) x c =
-    first_late (unless_bound seen.controllers name ∷ unless_bound seen.controllers partner ∷ if_bound seen.requests bound ∷ [])
-    (unless_late seen.controllers name, (unless_late seen.controllers partner, (bound_late seen.requests bound, tt))) x c
-cause_late seen (Serve name request bound) x c =
-    first_late (unless_bound seen.controllers name ∷ unless_bound seen.requests request ∷ if_bound seen.replies bound ∷ [])
-    (unless_late seen.controllers name, (unless_late seen.requests request, (bound_late seen.replies bound, tt))) x c
-cause_late seen (Deliver name reply) x c =
-    first_late (unless_bound seen.controllers name ∷ unless_bound seen.replies reply ∷ []) (unless_late seen.controllers name, (unless_late seen.replies reply, tt)) x c
-cause_late seen (Pull name source max) x c =
-    first_late (unless_bound seen.controllers name ∷ unless_bound seen.controllers source ∷ []) (unless_late seen.controllers name, (unless_late seen.controllers source, tt)) x c
-cause_late seen (Cycle name source max) x c =
-    first_late (unless_bound seen.controllers name ∷ unless_bound seen.controllers source ∷ []) (unless_late seen.controllers name, (unless_late seen.controllers source, tt)) x c
-cause_late seen (Ring name others rounds max) x c = all_late seen.controllers (name ∷ others) x c
-cause_late seen (Revive name guid image parent text) x c =
-    first_late (unless_bound seen.controllers name ∷ unless_bound seen.images image ∷ []) (unless_late seen.controllers name, (unless_late seen.images image, tt)) x c
-cause_late seen (Backup name bound) x c =
-    first_late (unless_bound seen.controllers name ∷ if_bound seen.images bound ∷ []) (unless_late seen.controllers name, (bound_late seen.images bound, tt)) x c
-cause_late seen (Restore name image inv) x c =
-    first_late (unless_bound seen.controllers name ∷ unless_bound seen.images image ∷ if_inv_given seen inv ∷ [])
-    (unless_late seen.controllers name, (unless_late seen.images image, (inv_late seen inv, tt))) x c
-cause_late seen (Install name dsa image inv) x c =
+coming_late seen name inv (Installed dsa image) x c =
     first_late (unless_bound seen.images image ∷ if_bound seen.controllers name ∷ if_given seen dsa inv ∷ if_full seen ∷ [])
     (unless_late seen.images image, (bound_late seen.controllers name, (given_late seen dsa inv, (full_late seen, tt)))) x c
-cause_late seen (Snapshot name bound) x c =
-    first_late (unless_bound seen.controllers name ∷ if_bound seen.snapshots bound ∷ []) (unless_late seen.controllers name, (bound_late seen.snapshots bound, tt)) x c
-cause_late seen (Rollback name snapshot) x c =
-    first_late (unless_bound seen.controllers name ∷ unless_bound seen.snapshots snapshot ∷ []) (unless_late seen.controllers name, (unless_late seen.snapshots snapshot, tt)) x c
-cause_late seen (StopAfter name calls how) x c = unless_late seen.controllers name x c
-cause_late seen (Fail name calls) x c = unless_late seen.controllers name x c
-cause_late seen (Stop name) x c = unless_late seen.controllers name x c
-cause_late seen (Start name) x c = unless_late seen.controllers name x c
-cause_late seen (Report name what) x c = unless_late seen.controllers name x c
+coming_late seen name inv (Restored image) x c =
+    first_late (unless_bound seen.controllers name ∷ unless_bound seen.images image ∷ if_inv_given seen inv ∷ [])
+    (unless_late seen.controllers name, (unless_late seen.images image, (inv_late seen inv, tt))) x c
+
+-- a controller and what it uses
+both_late : (seen : Seen) (name : List ℕ) (names : List (List ℕ)) (used : List ℕ) (x : Cause)
+    → first_of (unless_bound seen.controllers name ∷ unless_bound names used ∷ []) ≡ Some x → is_late x ≡ true
+both_late seen name names used x c =
+    first_late (unless_bound seen.controllers name ∷ unless_bound names used ∷ []) (unless_late seen.controllers name, (unless_late names used, tt)) x c
+
+-- a controller, and what it binds
+binding_late : (seen : Seen) (name : List ℕ) (names : List (List ℕ)) (bound : List ℕ) (x : Cause)
+    → first_of (unless_bound seen.controllers name ∷ if_bound names bound ∷ []) ≡ Some x → is_late x ≡ true
+binding_late seen name names bound x c =
+    first_late (unless_bound seen.controllers name ∷ if_bound names bound ∷ []) (unless_late seen.controllers name, (bound_late names bound, tt)) x c
+
+making_late : (seen : Seen) (name : List ℕ) (what : Made) (bound : List ℕ) (x : Cause) → cause_of_making seen name what bound ≡ Some x → is_late x ≡ true
+making_late seen name (Ask partner max version) bound x c =
+    first_late (unless_bound seen.controllers name ∷ unless_bound seen.controllers partner ∷ if_bound seen.requests bound ∷ [])
+    (unless_late seen.controllers name, (unless_late seen.controllers partner, (bound_late seen.requests bound, tt))) x c
+making_late seen name (Serve request) bound x c =
+    first_late (unless_bound seen.controllers name ∷ unless_bound seen.requests request ∷ if_bound seen.replies bound ∷ [])
+    (unless_late seen.controllers name, (unless_late seen.requests request, (bound_late seen.replies bound, tt))) x c
+making_late seen name Backup bound x c = binding_late seen name seen.images bound x c
+making_late seen name Snapshot bound x c = binding_late seen name seen.snapshots bound x c
+
+going_late : (seen : Seen) (name : List ℕ) (what : Exchange) (x : Cause) → cause_of_going seen name what ≡ Some x → is_late x ≡ true
+going_late seen name (Pull source max) x c = both_late seen name seen.controllers source x c
+going_late seen name (Cycle source max) x c = both_late seen name seen.controllers source x c
+going_late seen name (Ring others rounds max) x c = all_late seen.controllers (name ∷ others) x c
+
+cause_late : (seen : Seen) (e : Event) (x : Cause) → cause_after seen e ≡ Some x → is_late x ≡ true
+cause_late seen (Time now) x c = absurd (cc)
+cause_late seen (Comes name inv how) x c = coming_late seen name inv how x c
+cause_late seen (Calls name what) x c = unless_late seen.controllers name x c
+cause_late seen (Uses name what bound) x c = both_late seen name (names_used seen what) bound x c
+cause_late seen (Binds name what bound) x c = making_late seen name what bound x c
+cause_late seen (Asks name what) x c = unless_late seen.controllers name x c
+cause_late seen (Goes name what) x c = going_late seen name what x c
+cause_late seen (Meets name what) x c = unless_late seen.controllers name x c
 
 late_cause : (seen : Seen) (line : List ℕ) (e : Event) (cause : Cause) → is_utf8 line ≡ true → Spells line e → cause_after seen e ≡ Some cause → is_late cause ≡ true → IsCause seen line cause
 late_cause seen line e NotUtf8 u s c l = absurd (cc)

@@ -28,7 +28,7 @@ use Rattle.adr_token.proofs.ClassLaws.{classes_again, classes_spelled, attribute
 use Rattle.adr_token.proofs.SetLaws.{sets_again, sets_spelled}
 use Rattle.adr_schedule.specs.Limits.{ask_limit, plan_limit, rounds_limit}
 use Rattle.adr_schedule.specs.Crashes.{crash_of, crash_word, crashes}
-use Rattle.adr_schedule.specs.Commands.{bound_at, calls_at, crash_at, limit_at, number_between, rounds_at}
+use Rattle.adr_schedule.specs.Forms.{bound_at, calls_at, crash_at, limit_at, number_between, rounds_at}
 use Rattle.adr_schedule.specs.Grammar.{Word, Name, Number, Identifier, Class, Attribute, Quoted, Set, AreRounds, IsLimit, IsNext}
 
 -- spaces in front say nothing

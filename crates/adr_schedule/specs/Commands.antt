@@ -1,6 +1,5 @@
--- What a line says.
-use Rattle.std.specs.Prelude.{ℕ, List, Bool, ◌&&◌, ◌||◌, ◌==◌, nat_le, if◌then◌else◌, length, take, Option, Some, None, codes}
-use Rattle.std.specs.Option.{option_map}
+-- What a line says: the form of each verb's line, one row each.
+use Rattle.std.specs.Prelude.{ℕ, List, [], ◌∷◌, Bool, ◌||◌, ◌==◌, length, take, Option, Some, None, codes}
 use Rattle.std.specs.Str.{bytes_eq}
 use Rattle.adr_disk.specs.declared.memory.Crash.{Crash}
 use Rattle.adr_call.specs.declared.write.Write.{Write as Written}
@@ -9,269 +8,94 @@ use Rattle.adr_call.specs.declared.report.Report.{Report as Asked}
 use Rattle.adr_call.specs.declared.report.Report.TheVariants as reports
 use Rattle.adr_call.specs.declared.event.Event.{Event}
 use Rattle.adr_call.specs.declared.call.Call.TheVariants.{Write, Collect, Upgrade}
-use Rattle.adr_call.specs.declared.event.Event.TheVariants.{Controller, Time, Calls, Ask, Serve, Deliver, Pull, Cycle, Ring, Revive, Backup, Restore, Install, Snapshot, Rollback, StopAfter, Fail, Stop, Start, Report}
-use Rattle.adr_schedule.specs.Limits.{ask_limit, plan_limit, rounds_limit}
-use Rattle.adr_schedule.specs.Members.{names_at}
-use Rattle.adr_token.specs.Gives.{Reading, ◌>>=◌}
-use Rattle.adr_token.specs.Words.{unspaced, ended, said, word_at, name_at}
-use Rattle.adr_token.specs.Numbers.{number_at}
-use Rattle.adr_token.specs.Identifiers.{identifier_at}
-use Rattle.adr_token.specs.Classes.{attribute_at, class_at}
-use Rattle.adr_token.specs.Texts.{text_at}
+use Rattle.adr_call.specs.declared.event.Use.{Use}
+use Rattle.adr_call.specs.declared.event.Made.{Made}
+use Rattle.adr_call.specs.declared.event.Exchange.{Exchange}
+use Rattle.adr_call.specs.declared.event.Meeting.{Meeting}
+use Rattle.adr_call.specs.declared.event.Event.TheVariants.{Time, Comes, Calls, Uses, Binds, Asks, Goes, Meets}
+use Rattle.adr_call.specs.declared.event.Coming.TheVariants.{Fresh, Installed, Restored}
+use Rattle.adr_call.specs.declared.event.Use.TheVariants.{Deliver, Revive, Rollback}
+use Rattle.adr_call.specs.declared.event.Made.TheVariants.{Ask, Serve, Backup, Snapshot}
+use Rattle.adr_call.specs.declared.event.Exchange.TheVariants.{Pull, Cycle, Ring}
+use Rattle.adr_call.specs.declared.event.Meeting.TheVariants.{Stop, Start, StopAfter, Fail}
 use Rattle.adr_call.specs.declared.verb.Verb.{Verb}
 use Rattle.adr_call.specs.declared.verb.Verb.TheVariants as verbs
-use Rattle.adr_schedule.specs.Crashes.{crash_of}
-use Rattle.adr_schedule.specs.Sets.{sets_at}
+use Rattle.adr_token.specs.Gives.{◌>>=◌}
+use Rattle.adr_token.specs.Words.{unspaced, ended, word_at}
 use Rattle.adr_schedule.specs.Verbs.{verb_said}
+use Rattle.adr_schedule.specs.Forms.{Form, Name, Number, Identifier, Class, Attribute, Quoted, Limit, Rounds, Bound, After, Version, Plan, Members, Sets, SomeSets, calls_at, crash_at, line_by}
 
--- ---- lines that some verbs share
+-- ---- forms that some verbs share
 
--- NAME, behind the word of a report that wants no more
-unfoldable pub report_line : Asked → List ℕ → Option Event
-report_line what bytes = do
-  name ← name_at bytes
-  ended name.1 (Report name.0 what)
-
--- NAME ID
-unfoldable pub meta_line : List ℕ → Option Event
-meta_line bytes = do
-  name ← name_at bytes
-  guid ← identifier_at name.1
-  ended guid.1 (Report name.0 (reports.Meta guid.0))
+-- NAME, of a report that wants no more
+abbrev pub report_form : Asked → Form
+report_form what = record { kinds = Name ∷ []; make = λ v. Asks v.0 what }
 
 -- NAME NAME
-unfoldable pub use_line : (List ℕ → List ℕ → Event) → List ℕ → Option Event
-use_line event bytes = do
-  name ← name_at bytes
-  other ← name_at name.1
-  ended other.1 (event name.0 other.0)
+abbrev pub use_form : Use → Form
+use_form what = record { kinds = Name ∷ Name ∷ []; make = λ v. Uses v.0 what v.1.0 }
 
 -- NAME ID ATTR ID
-unfoldable pub link_line : (List ℕ → ℕ → List ℕ → Written) → List ℕ → Option Event
-link_line what bytes = do
-  name ← name_at bytes
-  from ← identifier_at name.1
-  attr ← attribute_at from.1
-  to ← identifier_at attr.1
-  ended to.1 (Calls name.0 (Write (what from.0 attr.0 to.0)))
-
--- NUM, between a least and a greatest one
-unfoldable pub number_between : ℕ → ℕ → List ℕ → Reading ℕ
-number_between least greatest bytes = do
-  number ← number_at bytes
-  if nat_le least number.0 && nat_le number.0 greatest then Some number else None
-
--- MAX: how many items are asked for
-abbrev pub limit_at : List ℕ → Reading ℕ
-limit_at bytes = number_between 1 ask_limit bytes
+abbrev pub link_form : (List ℕ → ℕ → List ℕ → Written) → Form
+link_form what = record { kinds = Name ∷ Identifier ∷ Attribute ∷ Identifier ∷ []; make = λ v. Calls v.0 (Write (what v.1.0 v.1.1.0 v.1.1.1.0)) }
 
 -- NAME NAME MAX
-unfoldable pub pull_line : (List ℕ → List ℕ → ℕ → Event) → List ℕ → Option Event
-pull_line event bytes = do
-  name ← name_at bytes
-  source ← name_at name.1
-  limit ← limit_at source.1
-  ended limit.1 (event name.0 source.0 limit.0)
-
--- as NAME
-unfoldable pub bound_at : List ℕ → Reading (List ℕ)
-bound_at bytes = do
-  word ← said (codes "as") bytes
-  name_at word.1
+abbrev pub pull_form : (List ℕ → ℕ → Exchange) → Form
+pull_form what = record { kinds = Name ∷ Name ∷ Limit ∷ []; make = λ v. Goes v.0 (what v.1.0 v.1.1.0) }
 
 -- NAME as NAME
-unfoldable pub binding_line : (List ℕ → List ℕ → Event) → List ℕ → Option Event
-binding_line event bytes = do
-  name ← name_at bytes
-  bound ← bound_at name.1
-  ended bound.1 (event name.0 bound.0)
+abbrev pub binding_form : Made → Form
+binding_form what = record { kinds = Name ∷ Bound ∷ []; make = λ v. Binds v.0 what v.1.0 }
 
--- after NUM: how many device calls a plan lets pass
-unfoldable pub calls_at : List ℕ → Reading ℕ
-calls_at bytes = do
-  word ← said (codes "after") bytes
-  number_between 0 plan_limit word.1
+-- a stop at once, or one that is planned
+abbrev pub stopped : Option (ℕ × Crash) → Meeting
+stopped None = Stop
+stopped (Some plan) = StopAfter plan.0 plan.1
 
--- HOW
-unfoldable pub crash_at : List ℕ → Reading Crash
-crash_at bytes = do
-  word ← word_at bytes
-  how ← crash_of word.0
-  Some (how, word.1)
+-- ---- the table
 
--- ---- each other line
+-- the form of a verb's line
+abbrev pub form_of : Verb → Form
+form_of verbs.Controller = record { kinds = Name ∷ Identifier ∷ Identifier ∷ []; make = λ v. Comes v.0 v.1.1.0 (Fresh v.1.0) }
+form_of verbs.Time = record { kinds = Number ∷ []; make = λ v. Time v.0 }
+form_of verbs.Add = record { kinds = Name ∷ Identifier ∷ Class ∷ Identifier ∷ Quoted ∷ Sets ∷ []; make = λ v. Calls v.0 (Write (Add v.1.0 v.1.1.0 v.1.1.1.0 v.1.1.1.1.0 v.1.1.1.1.1.0)) }
+form_of verbs.Modify = record { kinds = Name ∷ Identifier ∷ SomeSets ∷ []; make = λ v. Calls v.0 (Write (Modify v.1.0 v.1.1.0)) }
+form_of verbs.Rename = record { kinds = Name ∷ Identifier ∷ Identifier ∷ Quoted ∷ []; make = λ v. Calls v.0 (Write (Rename v.1.0 v.1.1.0 v.1.1.1.0)) }
+form_of verbs.Delete = record { kinds = Name ∷ Identifier ∷ []; make = λ v. Calls v.0 (Write (Delete v.1.0)) }
+form_of verbs.Link = link_form Link
+form_of verbs.Unlink = link_form Unlink
+form_of verbs.Ask = record { kinds = Name ∷ Name ∷ Limit ∷ Bound ∷ Version ∷ []; make = λ v. Binds v.0 (Ask v.1.0 v.1.1.0 v.1.1.1.1.0) v.1.1.1.0 }
+form_of verbs.Serve = record { kinds = Name ∷ Name ∷ Bound ∷ []; make = λ v. Binds v.0 (Serve v.1.0) v.1.1.0 }
+form_of verbs.Deliver = use_form Deliver
+form_of verbs.Pull = pull_form Pull
+form_of verbs.Cycle = pull_form Cycle
+form_of verbs.Ring = record { kinds = Rounds ∷ Limit ∷ Members ∷ []; make = λ v. Goes v.1.1.0.0 (Ring v.1.1.0.1 v.0 v.1.0) }
+form_of verbs.Collect = record { kinds = Name ∷ Number ∷ []; make = λ v. Calls v.0 (Collect v.1.0) }
+form_of verbs.Upgrade = record { kinds = Name ∷ []; make = λ v. Calls v.0 Upgrade }
+form_of verbs.Revive = record { kinds = Name ∷ Identifier ∷ Name ∷ Identifier ∷ Quoted ∷ []; make = λ v. Uses v.0 (Revive v.1.0 v.1.1.1.0 v.1.1.1.1.0) v.1.1.0 }
+form_of verbs.Backup = binding_form Backup
+form_of verbs.Restore = record { kinds = Name ∷ Name ∷ Identifier ∷ []; make = λ v. Comes v.0 v.1.1.0 (Restored v.1.0) }
+form_of verbs.Install = record { kinds = Name ∷ Identifier ∷ Name ∷ Identifier ∷ []; make = λ v. Comes v.0 v.1.1.1.0 (Installed v.1.0 v.1.1.0) }
+form_of verbs.Snapshot = binding_form Snapshot
+form_of verbs.Rollback = use_form Rollback
+form_of verbs.Stop = record { kinds = Name ∷ Plan ∷ []; make = λ v. Meets v.0 (stopped v.1.0) }
+form_of verbs.Fail = record { kinds = Name ∷ After ∷ []; make = λ v. Meets v.0 (Fail v.1.0) }
+form_of verbs.Start = record { kinds = Name ∷ []; make = λ v. Meets v.0 Start }
+form_of verbs.Show = report_form reports.Directory
+form_of verbs.Vector = report_form reports.Vector
+form_of verbs.Marks = report_form reports.Marks
+form_of verbs.Meta = record { kinds = Name ∷ Identifier ∷ []; make = λ v. Asks v.0 (reports.Meta v.1.0) }
 
-unfoldable pub controller_line : List ℕ → Option Event
-controller_line bytes = do
-  name ← name_at bytes
-  dsa ← identifier_at name.1
-  inv ← identifier_at dsa.1
-  ended inv.1 (Controller name.0 dsa.0 inv.0)
-
-unfoldable pub time_line : List ℕ → Option Event
-time_line bytes = do
-  now ← number_at bytes
-  ended now.1 (Time now.0)
-
-unfoldable pub add_line : List ℕ → Option Event
-add_line bytes = do
-  name ← name_at bytes
-  guid ← identifier_at name.1
-  class ← class_at guid.1
-  parent ← identifier_at class.1
-  text ← text_at (unspaced parent.1)
-  option_map (λ values. Calls name.0 (Write (Add guid.0 class.0 parent.0 text.0 values))) (sets_at text.1)
-
--- one set or more
-unfoldable pub modify_line : List ℕ → Option Event
-modify_line bytes = do
-  name ← name_at bytes
-  guid ← identifier_at name.1
-  values ← sets_at guid.1
-  if length values == 0 then None else Some (Calls name.0 (Write (Modify guid.0 values)))
-
--- how many rounds
-abbrev pub rounds_at : List ℕ → Reading ℕ
-rounds_at bytes = number_between 1 rounds_limit bytes
-
--- ROUNDS MAX NAME NAME.., each name once
-unfoldable pub ring_line : List ℕ → Option Event
-ring_line bytes = do
-  rounds ← rounds_at bytes
-  limit ← limit_at rounds.1
-  name ← name_at limit.1
-  others ← names_at name.0 name.1
-  if length others == 0 then None else Some (Ring name.0 others rounds.0 limit.0)
-
-unfoldable pub rename_line : List ℕ → Option Event
-rename_line bytes = do
-  name ← name_at bytes
-  guid ← identifier_at name.1
-  parent ← identifier_at guid.1
-  text ← text_at (unspaced parent.1)
-  ended text.1 (Calls name.0 (Write (Rename guid.0 parent.0 text.0)))
-
-unfoldable pub delete_line : List ℕ → Option Event
-delete_line bytes = do
-  name ← name_at bytes
-  guid ← identifier_at name.1
-  ended guid.1 (Calls name.0 (Write (Delete guid.0)))
-
--- the version of a request: `v1` says the first, and where nothing is left it is the second
-abbrev pub first_version : List ℕ → Reading ℕ
-first_version bytes = do
-  word ← said (codes "v1") bytes
-  Some (1, word.1)
-
-unfoldable pub version_at : List ℕ → Reading ℕ
-version_at bytes = if length (unspaced bytes) == 0 then Some (2, bytes) else first_version bytes
-
-unfoldable pub ask_line : List ℕ → Option Event
-ask_line bytes = do
-  name ← name_at bytes
-  partner ← name_at name.1
-  limit ← limit_at partner.1
-  bound ← bound_at limit.1
-  version ← version_at bound.1
-  ended version.1 (Ask name.0 partner.0 limit.0 version.0 bound.0)
-
-unfoldable pub serve_line : List ℕ → Option Event
-serve_line bytes = do
-  name ← name_at bytes
-  request ← name_at name.1
-  bound ← bound_at request.1
-  ended bound.1 (Serve name.0 request.0 bound.0)
-
-unfoldable pub collect_line : List ℕ → Option Event
-collect_line bytes = do
-  name ← name_at bytes
-  lifetime ← number_at name.1
-  ended lifetime.1 (Calls name.0 (Collect lifetime.0))
-
-unfoldable pub upgrade_line : List ℕ → Option Event
-upgrade_line bytes = do
-  name ← name_at bytes
-  ended name.1 (Calls name.0 Upgrade)
-
-unfoldable pub revive_line : List ℕ → Option Event
-revive_line bytes = do
-  name ← name_at bytes
-  guid ← identifier_at name.1
-  image ← name_at guid.1
-  parent ← identifier_at image.1
-  text ← text_at (unspaced parent.1)
-  ended text.1 (Revive name.0 guid.0 image.0 parent.0 text.0)
-
-unfoldable pub restore_line : List ℕ → Option Event
-restore_line bytes = do
-  name ← name_at bytes
-  image ← name_at name.1
-  inv ← identifier_at image.1
-  ended inv.1 (Restore name.0 image.0 inv.0)
-
-unfoldable pub install_line : List ℕ → Option Event
-install_line bytes = do
-  name ← name_at bytes
-  dsa ← identifier_at name.1
-  image ← name_at dsa.1
-  inv ← identifier_at image.1
-  ended inv.1 (Install name.0 dsa.0 image.0 inv.0)
+-- what a line says behind its verb
+abbrev pub by_verb : Verb → List ℕ → Option Event
+by_verb verb rest = line_by (form_of verb) rest
 
 -- a stop that is planned, behind the name
 unfoldable pub stop_after : List ℕ → List ℕ → Option Event
 stop_after name bytes = do
   calls ← calls_at bytes
   how ← crash_at calls.1
-  ended how.1 (StopAfter name calls.0 how.0)
-
--- a stop at once, or one that is planned
-unfoldable pub stop_line : List ℕ → Option Event
-stop_line bytes = do
-  name ← name_at bytes
-  if length (unspaced name.1) == 0 then Some (Stop name.0) else stop_after name.0 name.1
-
-unfoldable pub start_line : List ℕ → Option Event
-start_line bytes = do
-  name ← name_at bytes
-  ended name.1 (Start name.0)
-
-unfoldable pub fail_line : List ℕ → Option Event
-fail_line bytes = do
-  name ← name_at bytes
-  calls ← calls_at name.1
-  ended calls.1 (Fail name.0 calls.0)
-
--- what a line says behind its verb
-abbrev pub by_verb : Verb → List ℕ → Option Event
-by_verb verbs.Controller rest = controller_line rest
-by_verb verbs.Time rest = time_line rest
-by_verb verbs.Add rest = add_line rest
-by_verb verbs.Modify rest = modify_line rest
-by_verb verbs.Rename rest = rename_line rest
-by_verb verbs.Delete rest = delete_line rest
-by_verb verbs.Link rest = link_line Link rest
-by_verb verbs.Unlink rest = link_line Unlink rest
-by_verb verbs.Ask rest = ask_line rest
-by_verb verbs.Serve rest = serve_line rest
-by_verb verbs.Deliver rest = use_line Deliver rest
-by_verb verbs.Pull rest = pull_line Pull rest
-by_verb verbs.Cycle rest = pull_line Cycle rest
-by_verb verbs.Ring rest = ring_line rest
-by_verb verbs.Collect rest = collect_line rest
-by_verb verbs.Upgrade rest = upgrade_line rest
-by_verb verbs.Revive rest = revive_line rest
-by_verb verbs.Backup rest = binding_line Backup rest
-by_verb verbs.Restore rest = restore_line rest
-by_verb verbs.Install rest = install_line rest
-by_verb verbs.Snapshot rest = binding_line Snapshot rest
-by_verb verbs.Rollback rest = use_line Rollback rest
-by_verb verbs.Stop rest = stop_line rest
-by_verb verbs.Fail rest = fail_line rest
-by_verb verbs.Start rest = start_line rest
-by_verb verbs.Show rest = report_line reports.Directory rest
-by_verb verbs.Vector rest = report_line reports.Vector rest
-by_verb verbs.Marks rest = report_line reports.Marks rest
-by_verb verbs.Meta rest = meta_line rest
+  ended how.1 (Meets name (StopAfter calls.0 how.0))
 
 -- what a line says
 unfoldable pub event_of : List ℕ → Option Event

@@ -12,7 +12,17 @@ use Rattle.adr_call.specs.declared.report.Report.TheVariants as reports
 use Rattle.adr_call.specs.declared.call.Call.{Call}
 use Rattle.adr_call.specs.declared.call.Call.TheVariants.{Write, Collect, Upgrade}
 use Rattle.adr_call.specs.declared.event.Event.{Event}
-use Rattle.adr_call.specs.declared.event.Event.TheVariants.{Controller, Time, Calls, Ask, Serve, Deliver, Pull, Cycle, Ring, Revive, Backup, Restore, Install, Snapshot, Rollback, StopAfter, Fail, Stop, Start, Report}
+use Rattle.adr_call.specs.declared.event.Coming.{Coming}
+use Rattle.adr_call.specs.declared.event.Use.{Use}
+use Rattle.adr_call.specs.declared.event.Made.{Made}
+use Rattle.adr_call.specs.declared.event.Exchange.{Exchange}
+use Rattle.adr_call.specs.declared.event.Meeting.{Meeting}
+use Rattle.adr_call.specs.declared.event.Event.TheVariants.{Time, Comes, Calls, Uses, Binds, Asks, Goes, Meets}
+use Rattle.adr_call.specs.declared.event.Coming.TheVariants.{Fresh, Installed, Restored}
+use Rattle.adr_call.specs.declared.event.Use.TheVariants.{Deliver, Revive, Rollback}
+use Rattle.adr_call.specs.declared.event.Made.TheVariants.{Ask, Serve, Backup, Snapshot}
+use Rattle.adr_call.specs.declared.event.Exchange.TheVariants.{Pull, Cycle, Ring}
+use Rattle.adr_call.specs.declared.event.Meeting.TheVariants.{Stop, Start, StopAfter, Fail}
 use Rattle.adr_call.specs.Verbs.{verb_of, word_of}
 use Rattle.adr_token.specs.Words.{unspaced, is_name}
 use Rattle.adr_token.specs.Laws.{Stands}
@@ -84,28 +94,48 @@ tokens_asked (reports.Meta guid) = Identifier guid ∷ []
 abbrev pub version_words : ℕ → List Token
 version_words version = if version == 1 then Word (codes "v1") ∷ [] else []
 
+-- how a controller comes to be, or comes back
+abbrev pub tokens_coming : List ℕ → Coming → List Token
+tokens_coming inv (Fresh dsa) = Identifier dsa ∷ Identifier inv ∷ []
+tokens_coming inv (Installed dsa image) = Identifier dsa ∷ Name image ∷ Identifier inv ∷ []
+tokens_coming inv (Restored image) = Name image ∷ Identifier inv ∷ []
+
+-- what is done with what is bound to a name
+abbrev pub tokens_used : Use → List ℕ → List Token
+tokens_used Deliver bound = Name bound ∷ []
+tokens_used (Revive guid parent text) bound = Identifier guid ∷ Name bound ∷ Identifier parent ∷ Quoted text ∷ []
+tokens_used Rollback bound = Name bound ∷ []
+
+-- what is made and bound to a name
+abbrev pub tokens_made : Made → List ℕ → List Token
+tokens_made (Ask partner max version) bound = Name partner ∷ Number max ∷ Word (codes "as") ∷ Name bound ∷ version_words version
+tokens_made (Serve request) bound = Name request ∷ Word (codes "as") ∷ Name bound ∷ []
+tokens_made Backup bound = Word (codes "as") ∷ Name bound ∷ []
+tokens_made Snapshot bound = Word (codes "as") ∷ Name bound ∷ []
+
+-- how controllers pull; a ring has its numbers before its names
+abbrev pub tokens_going : List ℕ → Exchange → List Token
+tokens_going name (Pull source max) = Name name ∷ Name source ∷ Number max ∷ []
+tokens_going name (Cycle source max) = Name name ∷ Name source ∷ Number max ∷ []
+tokens_going name (Ring others rounds max) = Number rounds ∷ Number max ∷ Name name ∷ named others
+
+-- what befalls a controller or its disk
+abbrev pub tokens_met : Meeting → List Token
+tokens_met Stop = []
+tokens_met Start = []
+tokens_met (StopAfter calls how) = Word (codes "after") ∷ Number calls ∷ Word (crash_word how) ∷ []
+tokens_met (Fail calls) = Word (codes "after") ∷ Number calls ∷ []
+
 -- what stands behind the verb in the line of an event, its sets in this order
 unfoldable pub tokens_behind : List Given → Event → List Token
-tokens_behind order (Controller name dsa inv) = Name name ∷ Identifier dsa ∷ Identifier inv ∷ []
 tokens_behind order (Time now) = Number now ∷ []
+tokens_behind order (Comes name inv how) = Name name ∷ tokens_coming inv how
 tokens_behind order (Calls name what) = Name name ∷ tokens_called order what
-tokens_behind order (Ask name partner max version bound) = Name name ∷ Name partner ∷ Number max ∷ Word (codes "as") ∷ Name bound ∷ version_words version
-tokens_behind order (Serve name request bound) = Name name ∷ Name request ∷ Word (codes "as") ∷ Name bound ∷ []
-tokens_behind order (Deliver name reply) = Name name ∷ Name reply ∷ []
-tokens_behind order (Pull name source max) = Name name ∷ Name source ∷ Number max ∷ []
-tokens_behind order (Cycle name source max) = Name name ∷ Name source ∷ Number max ∷ []
-tokens_behind order (Ring name others rounds max) = Number rounds ∷ Number max ∷ Name name ∷ named others
-tokens_behind order (Revive name guid image parent text) = Name name ∷ Identifier guid ∷ Name image ∷ Identifier parent ∷ Quoted text ∷ []
-tokens_behind order (Backup name bound) = Name name ∷ Word (codes "as") ∷ Name bound ∷ []
-tokens_behind order (Restore name image inv) = Name name ∷ Name image ∷ Identifier inv ∷ []
-tokens_behind order (Install name dsa image inv) = Name name ∷ Identifier dsa ∷ Name image ∷ Identifier inv ∷ []
-tokens_behind order (Snapshot name bound) = Name name ∷ Word (codes "as") ∷ Name bound ∷ []
-tokens_behind order (Rollback name snapshot) = Name name ∷ Name snapshot ∷ []
-tokens_behind order (StopAfter name calls how) = Name name ∷ Word (codes "after") ∷ Number calls ∷ Word (crash_word how) ∷ []
-tokens_behind order (Fail name calls) = Name name ∷ Word (codes "after") ∷ Number calls ∷ []
-tokens_behind order (Stop name) = Name name ∷ []
-tokens_behind order (Start name) = Name name ∷ []
-tokens_behind order (Report name what) = Name name ∷ tokens_asked what
+tokens_behind order (Uses name what bound) = Name name ∷ tokens_used what bound
+tokens_behind order (Binds name what bound) = Name name ∷ tokens_made what bound
+tokens_behind order (Asks name what) = Name name ∷ tokens_asked what
+tokens_behind order (Goes name what) = tokens_going name what
+tokens_behind order (Meets name what) = Name name ∷ tokens_met what
 
 -- the tokens of the line of an event, its sets in this order
 abbrev pub tokens_in : List Given → Event → List Token
@@ -166,29 +196,35 @@ HasCallLine (Write what) = AreGiven what
 HasCallLine (Collect lifetime) = Unit {0}
 HasCallLine Upgrade = Unit {0}
 
--- what the tokens of an event don't say: how many items are asked for and in which versions, how many calls a plan lets pass, and how
--- values are given
+-- how many items are asked for, and in which version
+abbrev pub HasMadeLine : Made → Type 0
+HasMadeLine (Ask partner max version) = IsLimit max × IsVersion version
+HasMadeLine (Serve request) = Unit {0}
+HasMadeLine Backup = Unit {0}
+HasMadeLine Snapshot = Unit {0}
+
+abbrev pub HasExchangeLine : List ℕ → Exchange → Type 0
+HasExchangeLine name (Pull source max) = IsLimit max
+HasExchangeLine name (Cycle source max) = IsLimit max
+HasExchangeLine name (Ring others rounds max) = AreRounds rounds × IsLimit max × AreMembers name others
+
+-- how many calls a plan lets pass
+abbrev pub HasMeetingLine : Meeting → Type 0
+HasMeetingLine Stop = Unit {0}
+HasMeetingLine Start = Unit {0}
+HasMeetingLine (StopAfter calls how) = calls ≤ plan_limit
+HasMeetingLine (Fail calls) = calls ≤ plan_limit
+
+-- what the tokens of an event don't say
 abbrev pub HasLine : Event → Type 0
-HasLine (Controller name dsa inv) = Unit {0}
 HasLine (Time now) = Unit {0}
+HasLine (Comes name inv how) = Unit {0}
 HasLine (Calls name what) = HasCallLine what
-HasLine (Ask name partner max version bound) = IsLimit max × IsVersion version
-HasLine (Serve name request bound) = Unit {0}
-HasLine (Deliver name reply) = Unit {0}
-HasLine (Pull name source max) = IsLimit max
-HasLine (Cycle name source max) = IsLimit max
-HasLine (Ring name others rounds max) = AreRounds rounds × IsLimit max × AreMembers name others
-HasLine (Revive name guid image parent text) = Unit {0}
-HasLine (Backup name bound) = Unit {0}
-HasLine (Restore name image inv) = Unit {0}
-HasLine (Install name dsa image inv) = Unit {0}
-HasLine (Snapshot name bound) = Unit {0}
-HasLine (Rollback name snapshot) = Unit {0}
-HasLine (StopAfter name calls how) = calls ≤ plan_limit
-HasLine (Fail name calls) = calls ≤ plan_limit
-HasLine (Stop name) = Unit {0}
-HasLine (Start name) = Unit {0}
-HasLine (Report name what) = Unit {0}
+HasLine (Uses name what bound) = Unit {0}
+HasLine (Binds name what bound) = HasMadeLine what
+HasLine (Asks name what) = Unit {0}
+HasLine (Goes name what) = HasExchangeLine name what
+HasLine (Meets name what) = HasMeetingLine what
 
 -- a line spells an event, which has one: the event's tokens stand in the line, its sets in any order
 abbrev pub Spells : List ℕ → Event → Type 0

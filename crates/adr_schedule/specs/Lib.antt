@@ -6,6 +6,7 @@ pub mod Verbs
 pub mod Crashes
 pub mod Sets
 pub mod Members
+pub mod Forms
 pub mod Commands
 pub mod Shared
 pub mod Grammar

@@ -3,15 +3,17 @@
 ghost use Rattle.std.specs.Prelude.{◌≡◌, ◌==◌, ◌<◌, Some, None};
 ghost use Rattle.adr_token.specs.Gives.{Gives, Answers};
 ghost use Rattle.adr_token.specs.Words.{ended};
-ghost use Rattle.adr_schedule.specs.Commands.{add_line, ask_line, binding_line, bound_at, by_verb, calls_at, collect_line, controller_line, crash_at, delete_line, event_of, fail_line, install_line, is_passed, limit_at, link_line, meta_line, modify_line, number_between, pull_line, rename_line, report_line, restore_line, revive_line, ring_line, serve_line, start_line, stop_after, stop_line, time_line, upgrade_line, use_line, version_at};
-ghost use Rattle.adr_schedule.specs.Shared.{copied, linked, pulled, used};
+ghost use Rattle.adr_call.specs.declared.verb.Verb.TheVariants as verbs;
+ghost use Rattle.adr_schedule.specs.Commands.{binding_form, by_verb, event_of, is_passed, link_form, pull_form, report_form, stop_after, use_form};
+ghost use Rattle.adr_schedule.specs.Forms.{bound_at, calls_at, crash_at, limit_at, line_by, number_between, version_at};
+ghost use Rattle.adr_schedule.specs.Shared.{linked, pulled};
 
 use crate::crashes::crash_of;
 use crate::limits::{ASK_LIMIT, PLAN_LIMIT, ROUNDS_LIMIT};
 use crate::members::members;
 use crate::sets::sets;
-use crate::verb::{CopyVerb, LinkVerb, PullVerb, UseVerb, verb_said};
-use adr_call::{Call, Event, Failure, Report, Verb, Write};
+use crate::verb::{LinkVerb, PullVerb, verb_said};
+use adr_call::{Call, Coming, Event, Exchange, Failure, Made, Meeting, Report, Use, Verb, Write};
 use adr_disk::Crash;
 use adr_token::{Bad, Line, Stop, without_spaces};
 use adr_values::{Guid, Text};
@@ -30,46 +32,39 @@ fn ended<T: Drop>(line: &Line<'_>, value: T) -> Result<T, Stop>
 }
 
 /// NAME, behind the word of a report that wants no more.
-#[tactic(auto, unfolding(crate::specs::Commands::report_line))]
+#[tactic(auto, unfolding(crate::specs::Forms::line_by))]
 fn reported(alloc: Global, what: Report, line: &mut Line<'_>) -> Result<Event, Stop>
-    ensures { Answers result (report_line what line.old) }
+    ensures { Answers result (line_by (report_form what) line.old) }
 {
     let name = line.name(alloc)?;
-    ended(line, Event::Report { name, what })
+    ended(line, Event::Asks { name, what })
 }
 
 /// NAME ID, behind `meta`.
-#[tactic(auto, unfolding(crate::specs::Commands::meta_line))]
+#[tactic(auto, unfolding(crate::specs::Forms::line_by))]
 fn meta(alloc: Global, line: &mut Line<'_>) -> Result<Event, Stop>
-    ensures { Answers result (meta_line line.old) }
+    ensures { Answers result (by_verb verbs.Meta line.old) }
 {
     let name = line.name(alloc)?;
     let guid = line.identifier()?;
     let what = Report::Meta { guid };
-    ended(line, Event::Report { name, what })
+    ended(line, Event::Asks { name, what })
 }
 
 /// NAME NAME, behind `deliver` or `rollback`.
-#[tactic(auto, unfolding(crate::specs::Commands::use_line))]
-fn used(alloc: Global, verb: UseVerb, line: &mut Line<'_>) -> Result<Event, Stop>
-    ensures { Answers result (use_line (used verb) line.old) }
+#[tactic(auto, unfolding(crate::specs::Forms::line_by))]
+fn used(alloc: Global, what: Use, line: &mut Line<'_>) -> Result<Event, Stop>
+    ensures { Answers result (line_by (use_form what) line.old) }
 {
     let name = line.name(alloc)?;
-    let other = line.name(alloc)?;
-    let event = match verb {
-        UseVerb::Deliver => Event::Deliver { name, reply: other },
-        UseVerb::Rollback => Event::Rollback {
-            name,
-            snapshot: other,
-        },
-    };
-    ended(line, event)
+    let bound = line.name(alloc)?;
+    ended(line, Event::Uses { name, what, bound })
 }
 
 /// NAME ID ATTR ID, behind `link` or `unlink`.
-#[tactic(auto, unfolding(crate::specs::Commands::link_line))]
+#[tactic(auto, unfolding(crate::specs::Forms::line_by))]
 fn linked(alloc: Global, verb: LinkVerb, line: &mut Line<'_>) -> Result<Event, Stop>
-    ensures { Answers result (link_line (linked verb) line.old) }
+    ensures { Answers result (line_by (link_form (linked verb)) line.old) }
 {
     let name = line.name(alloc)?;
     let from = line.identifier()?;
@@ -89,7 +84,7 @@ fn linked(alloc: Global, verb: LinkVerb, line: &mut Line<'_>) -> Result<Event, S
 }
 
 /// A number between a least and a greatest one.
-#[tactic(auto, unfolding(crate::specs::Commands::number_between))]
+#[tactic(auto, unfolding(crate::specs::Forms::number_between))]
 fn number_between(line: &mut Line<'_>, least: u32, greatest: u32) -> Result<u32, Stop>
     ensures { Gives result line.new (number_between least greatest line.old) }
 {
@@ -109,22 +104,22 @@ fn limit(line: &mut Line<'_>) -> Result<u32, Stop>
 }
 
 /// NAME NAME MAX, behind `pull` or `cycle`.
-#[tactic(auto, unfolding(crate::specs::Commands::pull_line))]
+#[tactic(auto, unfolding(crate::specs::Forms::line_by))]
 fn pulled(alloc: Global, verb: PullVerb, line: &mut Line<'_>) -> Result<Event, Stop>
-    ensures { Answers result (pull_line (pulled verb) line.old) }
+    ensures { Answers result (line_by (pull_form (pulled verb)) line.old) }
 {
     let name = line.name(alloc)?;
     let source = line.name(alloc)?;
     let max = limit(line)?;
-    let event = match verb {
-        PullVerb::Pull => Event::Pull { name, source, max },
-        PullVerb::Cycle => Event::Cycle { name, source, max },
+    let what = match verb {
+        PullVerb::Pull => Exchange::Pull { source, max },
+        PullVerb::Cycle => Exchange::Cycle { source, max },
     };
-    ended(line, event)
+    ended(line, Event::Goes { name, what })
 }
 
 /// The name that the line binds, behind `as`.
-#[tactic(auto, unfolding(crate::specs::Commands::bound_at))]
+#[tactic(auto, unfolding(crate::specs::Forms::bound_at))]
 fn bound(alloc: Global, line: &mut Line<'_>) -> Result<Text, Stop>
     ensures { Gives result line.new (bound_at line.old) }
 {
@@ -133,40 +128,37 @@ fn bound(alloc: Global, line: &mut Line<'_>) -> Result<Text, Stop>
 }
 
 /// NAME as NAME, behind `backup` or `snapshot`.
-#[tactic(auto, unfolding(crate::specs::Commands::binding_line))]
-fn copied(alloc: Global, verb: CopyVerb, line: &mut Line<'_>) -> Result<Event, Stop>
-    ensures { Answers result (binding_line (copied verb) line.old) }
+#[tactic(auto, unfolding(crate::specs::Forms::line_by))]
+fn copied(alloc: Global, what: Made, line: &mut Line<'_>) -> Result<Event, Stop>
+    ensures { Answers result (line_by (binding_form what) line.old) }
 {
     let name = line.name(alloc)?;
     let bound = bound(alloc, line)?;
-    let event = match verb {
-        CopyVerb::Backup => Event::Backup { name, bound },
-        CopyVerb::Snapshot => Event::Snapshot { name, bound },
-    };
-    ended(line, event)
+    ended(line, Event::Binds { name, what, bound })
 }
 
-#[tactic(auto, unfolding(crate::specs::Commands::controller_line))]
+#[tactic(auto, unfolding(crate::specs::Forms::line_by))]
 fn controller(alloc: Global, line: &mut Line<'_>) -> Result<Event, Stop>
-    ensures { Answers result (controller_line line.old) }
+    ensures { Answers result (by_verb verbs.Controller line.old) }
 {
     let name = line.name(alloc)?;
     let dsa = line.identifier()?;
     let inv = line.identifier()?;
-    ended(line, Event::Controller { name, dsa, inv })
+    let how = Coming::Fresh { dsa };
+    ended(line, Event::Comes { name, inv, how })
 }
 
-#[tactic(auto, unfolding(crate::specs::Commands::time_line))]
+#[tactic(auto, unfolding(crate::specs::Forms::line_by))]
 fn time(line: &mut Line<'_>) -> Result<Event, Stop>
-    ensures { Answers result (time_line line.old) }
+    ensures { Answers result (by_verb verbs.Time line.old) }
 {
     let now = line.number()?;
     ended(line, Event::Time { now })
 }
 
-#[tactic(auto, unfolding(crate::specs::Commands::add_line))]
+#[tactic(auto, unfolding(crate::specs::Forms::line_by))]
 fn add(alloc: Global, line: &mut Line<'_>) -> Result<Event, Stop>
-    ensures { Answers result (add_line line.old) }
+    ensures { Answers result (by_verb verbs.Add line.old) }
 {
     let name = line.name(alloc)?;
     let guid = line.identifier()?;
@@ -189,9 +181,9 @@ fn add(alloc: Global, line: &mut Line<'_>) -> Result<Event, Stop>
 }
 
 /// ROUNDS MAX NAME NAME.., each name once.
-#[tactic(auto, unfolding(crate::specs::Commands::ring_line))]
+#[tactic(auto, unfolding(crate::specs::Forms::line_by))]
 fn ring(alloc: Global, line: &mut Line<'_>) -> Result<Event, Stop>
-    ensures { Answers result (ring_line line.old) }
+    ensures { Answers result (by_verb verbs.Ring line.old) }
 {
     let rounds = number_between(line, 1, ROUNDS_LIMIT)?;
     let max = limit(line)?;
@@ -200,17 +192,17 @@ fn ring(alloc: Global, line: &mut Line<'_>) -> Result<Event, Stop>
     if others.items().is_empty() {
         return Err(Failure::Refused(Bad));
     }
-    Ok(Event::Ring {
-        name,
+    let what = Exchange::Ring {
         others,
         rounds,
         max,
-    })
+    };
+    Ok(Event::Goes { name, what })
 }
 
-#[tactic(auto, unfolding(crate::specs::Commands::modify_line))]
+#[tactic(auto, unfolding(crate::specs::Forms::line_by))]
 fn modify(alloc: Global, line: &mut Line<'_>) -> Result<Event, Stop>
-    ensures { Answers result (modify_line line.old) }
+    ensures { Answers result (by_verb verbs.Modify line.old) }
 {
     let name = line.name(alloc)?;
     let guid = line.identifier()?;
@@ -225,9 +217,9 @@ fn modify(alloc: Global, line: &mut Line<'_>) -> Result<Event, Stop>
     })
 }
 
-#[tactic(auto, unfolding(crate::specs::Commands::rename_line))]
+#[tactic(auto, unfolding(crate::specs::Forms::line_by))]
 fn rename(alloc: Global, line: &mut Line<'_>) -> Result<Event, Stop>
-    ensures { Answers result (rename_line line.old) }
+    ensures { Answers result (by_verb verbs.Rename line.old) }
 {
     let name = line.name(alloc)?;
     let guid = line.identifier()?;
@@ -244,9 +236,9 @@ fn rename(alloc: Global, line: &mut Line<'_>) -> Result<Event, Stop>
     )
 }
 
-#[tactic(auto, unfolding(crate::specs::Commands::delete_line))]
+#[tactic(auto, unfolding(crate::specs::Forms::line_by))]
 fn delete(alloc: Global, line: &mut Line<'_>) -> Result<Event, Stop>
-    ensures { Answers result (delete_line line.old) }
+    ensures { Answers result (by_verb verbs.Delete line.old) }
 {
     let name = line.name(alloc)?;
     let guid = line.identifier()?;
@@ -261,7 +253,7 @@ fn delete(alloc: Global, line: &mut Line<'_>) -> Result<Event, Stop>
 }
 
 /// The version of a request: `v1` says the first, and where nothing is left it is the second.
-#[tactic(auto, unfolding(crate::specs::Commands::version_at))]
+#[tactic(auto, unfolding(crate::specs::Forms::version_at))]
 fn version(line: &mut Line<'_>) -> Result<u16, Stop>
     ensures { Gives result line.new (version_at line.old) }
 {
@@ -272,47 +264,37 @@ fn version(line: &mut Line<'_>) -> Result<u16, Stop>
     Ok(1)
 }
 
-#[tactic(auto, unfolding(crate::specs::Commands::ask_line))]
+#[tactic(auto, unfolding(crate::specs::Forms::line_by))]
 fn ask(alloc: Global, line: &mut Line<'_>) -> Result<Event, Stop>
-    ensures { Answers result (ask_line line.old) }
+    ensures { Answers result (by_verb verbs.Ask line.old) }
 {
     let name = line.name(alloc)?;
     let partner = line.name(alloc)?;
     let max = limit(line)?;
     let bound = bound(alloc, line)?;
     let version = version(line)?;
-    ended(
-        line,
-        Event::Ask {
-            name,
-            partner,
-            max,
-            version,
-            bound,
-        },
-    )
+    let what = Made::Ask {
+        partner,
+        max,
+        version,
+    };
+    ended(line, Event::Binds { name, what, bound })
 }
 
-#[tactic(auto, unfolding(crate::specs::Commands::serve_line))]
+#[tactic(auto, unfolding(crate::specs::Forms::line_by))]
 fn serve(alloc: Global, line: &mut Line<'_>) -> Result<Event, Stop>
-    ensures { Answers result (serve_line line.old) }
+    ensures { Answers result (by_verb verbs.Serve line.old) }
 {
     let name = line.name(alloc)?;
     let request = line.name(alloc)?;
     let bound = bound(alloc, line)?;
-    ended(
-        line,
-        Event::Serve {
-            name,
-            request,
-            bound,
-        },
-    )
+    let what = Made::Serve { request };
+    ended(line, Event::Binds { name, what, bound })
 }
 
-#[tactic(auto, unfolding(crate::specs::Commands::collect_line))]
+#[tactic(auto, unfolding(crate::specs::Forms::line_by))]
 fn collect(alloc: Global, line: &mut Line<'_>) -> Result<Event, Stop>
-    ensures { Answers result (collect_line line.old) }
+    ensures { Answers result (by_verb verbs.Collect line.old) }
 {
     let name = line.name(alloc)?;
     let lifetime = line.number()?;
@@ -325,9 +307,9 @@ fn collect(alloc: Global, line: &mut Line<'_>) -> Result<Event, Stop>
     )
 }
 
-#[tactic(auto, unfolding(crate::specs::Commands::upgrade_line))]
+#[tactic(auto, unfolding(crate::specs::Forms::line_by))]
 fn upgrade(alloc: Global, line: &mut Line<'_>) -> Result<Event, Stop>
-    ensures { Answers result (upgrade_line line.old) }
+    ensures { Answers result (by_verb verbs.Upgrade line.old) }
 {
     let name = line.name(alloc)?;
     ended(
@@ -339,9 +321,9 @@ fn upgrade(alloc: Global, line: &mut Line<'_>) -> Result<Event, Stop>
     )
 }
 
-#[tactic(auto, unfolding(crate::specs::Commands::revive_line))]
+#[tactic(auto, unfolding(crate::specs::Forms::line_by))]
 fn revive(alloc: Global, line: &mut Line<'_>) -> Result<Event, Stop>
-    ensures { Answers result (revive_line line.old) }
+    ensures { Answers result (by_verb verbs.Revive line.old) }
 {
     let name = line.name(alloc)?;
     let guid = line.identifier()?;
@@ -349,49 +331,42 @@ fn revive(alloc: Global, line: &mut Line<'_>) -> Result<Event, Stop>
     let parent = line.identifier()?;
     line.skip_spaces();
     let text = line.text(alloc)?;
+    let what = Use::Revive { guid, parent, text };
     ended(
         line,
-        Event::Revive {
+        Event::Uses {
             name,
-            guid,
-            image,
-            parent,
-            text,
+            what,
+            bound: image,
         },
     )
 }
 
-#[tactic(auto, unfolding(crate::specs::Commands::restore_line))]
+#[tactic(auto, unfolding(crate::specs::Forms::line_by))]
 fn restore(alloc: Global, line: &mut Line<'_>) -> Result<Event, Stop>
-    ensures { Answers result (restore_line line.old) }
+    ensures { Answers result (by_verb verbs.Restore line.old) }
 {
     let name = line.name(alloc)?;
     let image = line.name(alloc)?;
     let inv = line.identifier()?;
-    ended(line, Event::Restore { name, image, inv })
+    let how = Coming::Restored { image };
+    ended(line, Event::Comes { name, inv, how })
 }
 
-#[tactic(auto, unfolding(crate::specs::Commands::install_line))]
+#[tactic(auto, unfolding(crate::specs::Forms::line_by))]
 fn install(alloc: Global, line: &mut Line<'_>) -> Result<Event, Stop>
-    ensures { Answers result (install_line line.old) }
+    ensures { Answers result (by_verb verbs.Install line.old) }
 {
     let name = line.name(alloc)?;
     let dsa = line.identifier()?;
     let image = line.name(alloc)?;
     let inv = line.identifier()?;
-    ended(
-        line,
-        Event::Install {
-            name,
-            dsa,
-            image,
-            inv,
-        },
-    )
+    let how = Coming::Installed { dsa, image };
+    ended(line, Event::Comes { name, inv, how })
 }
 
 /// NUM, behind `after`: how many device calls a plan lets pass.
-#[tactic(auto, unfolding(crate::specs::Commands::calls_at))]
+#[tactic(auto, unfolding(crate::specs::Forms::calls_at))]
 fn calls(line: &mut Line<'_>) -> Result<u32, Stop>
     ensures { Gives result line.new (calls_at line.old) }
 {
@@ -400,7 +375,7 @@ fn calls(line: &mut Line<'_>) -> Result<u32, Stop>
 }
 
 /// HOW
-#[tactic(auto, unfolding(crate::specs::Commands::crash_at))]
+#[tactic(auto, unfolding(crate::specs::Forms::crash_at))]
 fn how(line: &mut Line<'_>) -> Result<Crash, Stop>
     ensures { Gives result line.new (crash_at line.old) }
 {
@@ -418,36 +393,40 @@ fn stop_after(line: &mut Line<'_>, name: Text) -> Result<Event, Stop>
 {
     let calls = calls(line)?;
     let how = how(line)?;
-    ended(line, Event::StopAfter { name, calls, how })
+    let what = Meeting::StopAfter { calls, how };
+    ended(line, Event::Meets { name, what })
 }
 
 /// A stop at once, or one that is planned.
-#[tactic(auto, unfolding(crate::specs::Commands::stop_line))]
+#[tactic(auto, unfolding(crate::specs::Forms::line_by))]
 fn stop(alloc: Global, line: &mut Line<'_>) -> Result<Event, Stop>
-    ensures { Answers result (stop_line line.old) }
+    ensures { Answers result (by_verb verbs.Stop line.old) }
 {
     let name = line.name(alloc)?;
     if !line.is_ended() {
         return stop_after(line, name);
     }
-    Ok(Event::Stop { name })
+    let what = Meeting::Stop;
+    Ok(Event::Meets { name, what })
 }
 
-#[tactic(auto, unfolding(crate::specs::Commands::start_line))]
+#[tactic(auto, unfolding(crate::specs::Forms::line_by))]
 fn start(alloc: Global, line: &mut Line<'_>) -> Result<Event, Stop>
-    ensures { Answers result (start_line line.old) }
+    ensures { Answers result (by_verb verbs.Start line.old) }
 {
     let name = line.name(alloc)?;
-    ended(line, Event::Start { name })
+    let what = Meeting::Start;
+    ended(line, Event::Meets { name, what })
 }
 
-#[tactic(auto, unfolding(crate::specs::Commands::fail_line))]
+#[tactic(auto, unfolding(crate::specs::Forms::line_by))]
 fn fail(alloc: Global, line: &mut Line<'_>) -> Result<Event, Stop>
-    ensures { Answers result (fail_line line.old) }
+    ensures { Answers result (by_verb verbs.Fail line.old) }
 {
     let name = line.name(alloc)?;
     let calls = calls(line)?;
-    ended(line, Event::Fail { name, calls })
+    let what = Meeting::Fail { calls };
+    ended(line, Event::Meets { name, what })
 }
 
 /// What a line says behind its verb.
@@ -465,18 +444,18 @@ fn by_verb(alloc: Global, verb: Verb, line: &mut Line<'_>) -> Result<Event, Stop
         Verb::Unlink => linked(alloc, LinkVerb::Unlink, line),
         Verb::Ask => ask(alloc, line),
         Verb::Serve => serve(alloc, line),
-        Verb::Deliver => used(alloc, UseVerb::Deliver, line),
+        Verb::Deliver => used(alloc, Use::Deliver, line),
         Verb::Pull => pulled(alloc, PullVerb::Pull, line),
         Verb::Cycle => pulled(alloc, PullVerb::Cycle, line),
         Verb::Ring => ring(alloc, line),
         Verb::Collect => collect(alloc, line),
         Verb::Upgrade => upgrade(alloc, line),
         Verb::Revive => revive(alloc, line),
-        Verb::Backup => copied(alloc, CopyVerb::Backup, line),
+        Verb::Backup => copied(alloc, Made::Backup, line),
         Verb::Restore => restore(alloc, line),
         Verb::Install => install(alloc, line),
-        Verb::Snapshot => copied(alloc, CopyVerb::Snapshot, line),
-        Verb::Rollback => used(alloc, UseVerb::Rollback, line),
+        Verb::Snapshot => copied(alloc, Made::Snapshot, line),
+        Verb::Rollback => used(alloc, Use::Rollback, line),
         Verb::Stop => stop(alloc, line),
         Verb::Fail => fail(alloc, line),
         Verb::Start => start(alloc, line),

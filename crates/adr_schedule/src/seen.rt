@@ -3,13 +3,13 @@
 ghost use Rattle.std.specs.Prelude.{◌≡◌, [], ◌∷◌, ◌++◌, ◌||◌, false, None, OnOk, IfErr};
 ghost use Rattle.adr_schedule.specs.Faults.{RefusesEvent};
 ghost use Rattle.adr_values.specs.First.{first_of};
-ghost use Rattle.adr_schedule.specs.Seen.{nothing_seen, is_bound, is_any_unbound, unless_all_bound, unless_bound, if_bound, if_inv_given, if_given, if_full, cause_after, with_controller, seen_after};
+ghost use Rattle.adr_schedule.specs.Seen.{nothing_seen, is_bound, is_any_unbound, unless_all_bound, unless_bound, if_bound, if_inv_given, if_given, if_full, cause_after, cause_of_coming, cause_of_going, cause_of_making, names_used, with_coming, with_controller, seen_after};
 
 use crate::bound::BoundNames;
 use crate::fault::Cause;
 use crate::given::GivenIdentifiers;
 use crate::limits::CONTROLLER_LIMIT;
-use adr_call::{Event, Failure};
+use adr_call::{Coming, Event, Exchange, Failure, Made, Use};
 use adr_values::{Guid, Text};
 use std::alloc::Global;
 use std::marker::Model;
@@ -197,50 +197,64 @@ impl Seen {
         self.cause_of_controller(name, dsa, inv)
     }
 
+    fn cause_of_coming(&self, name: &Text, inv: &Guid, how: &Coming) -> Option<Cause>
+        ensures { result ≡ cause_of_coming self.now name.now inv.now how.now }
+    {
+        match how {
+            Coming::Fresh { dsa } => self.cause_of_controller(name, dsa, inv),
+            Coming::Installed { dsa, image } => self.cause_of_install(name, dsa, image, inv),
+            Coming::Restored { image } => self.cause_of_restore(name, image, inv),
+        }
+    }
+
+    /// The names of what is used.
+    fn names_used(&self, what: &Use) -> &BoundNames
+        ensures { result.now ≡ names_used self.now what.now }
+    {
+        match what {
+            Use::Deliver => &self.replies,
+            Use::Revive { .. } => &self.images,
+            Use::Rollback => &self.snapshots,
+        }
+    }
+
+    fn cause_of_making(&self, name: &Text, what: &Made, bound: &Text) -> Option<Cause>
+        ensures { result ≡ cause_of_making self.now name.now what.now bound.now }
+    {
+        match what {
+            Made::Ask { partner, .. } => self.cause_of_ask(name, partner, bound),
+            Made::Serve { request } => self.cause_of_serve(name, request, bound),
+            Made::Backup => self.cause_of_copy(name, &self.images, bound),
+            Made::Snapshot => self.cause_of_copy(name, &self.snapshots, bound),
+        }
+    }
+
+    fn cause_of_going(&self, name: &Text, what: &Exchange) -> Option<Cause>
+        ensures { result ≡ cause_of_going self.now name.now what.now }
+    {
+        match what {
+            Exchange::Pull { source, .. } | Exchange::Cycle { source, .. } => {
+                self.cause_of_use(name, &self.controllers, source)
+            }
+            Exchange::Ring { others, .. } => self.cause_of_ring(name, others.items()),
+        }
+    }
+
     /// Why the event may not follow, if it may not.
     pub fn cause_after(&self, event: &Event) -> Option<Cause>
         ensures { result ≡ cause_after self.now event.now }
     {
         match event {
-            Event::Controller { name, dsa, inv } => self.cause_of_controller(name, dsa, inv),
             Event::Time { .. } => None,
-            Event::Ask {
-                name,
-                partner,
-                bound,
-                ..
-            } => self.cause_of_ask(name, partner, bound),
-            Event::Serve {
-                name,
-                request,
-                bound,
-            } => self.cause_of_serve(name, request, bound),
-            Event::Deliver { name, reply } => self.cause_of_use(name, &self.replies, reply),
-            Event::Pull { name, source, .. } | Event::Cycle { name, source, .. } => {
-                self.cause_of_use(name, &self.controllers, source)
+            Event::Comes { name, inv, how } => self.cause_of_coming(name, inv, how),
+            Event::Uses { name, what, bound } => {
+                self.cause_of_use(name, self.names_used(what), bound)
             }
-            Event::Ring { name, others, .. } => self.cause_of_ring(name, others.items()),
-            Event::Backup { name, bound } => self.cause_of_copy(name, &self.images, bound),
-            Event::Restore { name, image, inv } => self.cause_of_restore(name, image, inv),
-            Event::Install {
-                name,
-                dsa,
-                image,
-                inv,
-            } => self.cause_of_install(name, dsa, image, inv),
-            Event::Snapshot { name, bound } => self.cause_of_copy(name, &self.snapshots, bound),
-            Event::Rollback { name, snapshot } => self.cause_of_use(
-                name,
-                &self.snapshots,
-                snapshot,
-            ),
-            Event::Revive { name, image, .. } => self.cause_of_use(name, &self.images, image),
-            Event::Calls { name, .. }
-            | Event::StopAfter { name, .. }
-            | Event::Fail { name, .. }
-            | Event::Stop { name }
-            | Event::Start { name }
-            | Event::Report { name, .. } => self.unless_controller(name),
+            Event::Binds { name, what, bound } => self.cause_of_making(name, what, bound),
+            Event::Goes { name, what } => self.cause_of_going(name, what),
+            Event::Calls { name, .. } | Event::Asks { name, .. } | Event::Meets { name, .. } => {
+                self.unless_controller(name)
+            }
         }
     }
 
@@ -263,6 +277,25 @@ impl Seen {
         self.invs.give(inv)
     }
 
+    /// Notes the identifiers that are given by how a controller comes, and the name of a new one.
+    fn note_coming(
+        &mut self,
+        alloc: Global,
+        name: &Text,
+        inv: &Guid,
+        how: &Coming,
+    ) -> Result<(), Failure<Cause>>
+        requires { cause_of_coming self.old name.now inv.now how.now ≡ None }
+        ensures seen { OnOk result (self.new ≡ with_coming self.old name.now inv.now how.now) }
+        ensures memory { IfErr result (λ failure. failure ≡ Failure.NoMemory) }
+    {
+        match how {
+            Coming::Fresh { dsa } => self.note_controller(alloc, name, dsa, inv),
+            Coming::Installed { dsa, .. } => self.note_controller(alloc, name, dsa, inv),
+            Coming::Restored { .. } => self.invs.give(inv),
+        }
+    }
+
     /// Notes what the event, which may follow, binds and gives. After an error it isn't said what was noted.
     pub fn note(&mut self, alloc: Global, event: &Event) -> Result<(), Failure<Cause>>
         requires { cause_after self.old event.now ≡ None }
@@ -270,13 +303,27 @@ impl Seen {
         ensures memory { IfErr result (λ failure. failure ≡ Failure.NoMemory) }
     {
         match event {
-            Event::Controller { name, dsa, inv } => self.note_controller(alloc, name, dsa, inv),
-            Event::Ask { bound, .. } => self.requests.bind(alloc, bound),
-            Event::Serve { bound, .. } => self.replies.bind(alloc, bound),
-            Event::Backup { bound, .. } => self.images.bind(alloc, bound),
-            Event::Restore { inv, .. } => self.invs.give(inv),
-            Event::Install { name, dsa, inv, .. } => self.note_controller(alloc, name, dsa, inv),
-            Event::Snapshot { bound, .. } => self.snapshots.bind(alloc, bound),
+            Event::Comes { name, inv, how } => self.note_coming(alloc, name, inv, how),
+            Event::Binds {
+                what: Made::Ask { .. },
+                bound,
+                ..
+            } => self.requests.bind(alloc, bound),
+            Event::Binds {
+                what: Made::Serve { .. },
+                bound,
+                ..
+            } => self.replies.bind(alloc, bound),
+            Event::Binds {
+                what: Made::Backup,
+                bound,
+                ..
+            } => self.images.bind(alloc, bound),
+            Event::Binds {
+                what: Made::Snapshot,
+                bound,
+                ..
+            } => self.snapshots.bind(alloc, bound),
             _ => Ok(()),
         }
     }

@@ -5,13 +5,6 @@ ghost use Rattle.adr_schedule.specs.Verbs.{verb_said};
 
 use adr_call::Verb;
 
-/// A verb by which a controller uses what a name stands for.
-#[derive(Clone, Copy)]
-pub enum UseVerb {
-    Deliver,
-    Rollback,
-}
-
 /// A verb of links.
 #[derive(Clone, Copy)]
 pub enum LinkVerb {
@@ -24,13 +17,6 @@ pub enum LinkVerb {
 pub enum PullVerb {
     Pull,
     Cycle,
-}
-
-/// A verb that copies a controller.
-#[derive(Clone, Copy)]
-pub enum CopyVerb {
-    Backup,
-    Snapshot,
 }
 
 /// The verbs that a text knows.

@@ -6,8 +6,8 @@ use Rattle.adr_schedule.specs.Commands.{event_of}
 use Rattle.adr_schedule.specs.Grammar.{IsAllowed}
 use Rattle.adr_schedule.proofs.AllowedLaws.{spelled_allowed}
 use Rattle.adr_schedule.proofs.EventLaws.{lines_spelled}
-use Rattle.adr_law_headline.proofs.Following.{well_asked}
-use Rattle.adr_law_headline.proofs.Typing.{event_typed}
+use Rattle.adr_law_lines.proofs.Asking.{well_asked}
+use Rattle.adr_law_lines.proofs.Typing.{event_typed}
 use Rattle.adr_session.specs.Said.{LinesAreTyped, LinesSayGivenCalls}
 
 said_allowed : (line : List ℕ) (e : Event) → event_of line ≡ Some e → IsAllowed e

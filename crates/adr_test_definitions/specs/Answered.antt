@@ -2,7 +2,8 @@
 use Rattle.std.specs.Prelude.{ℕ, List, [], ◌∷◌, codes}
 use Rattle.adr_call.specs.declared.event.Event.{Event}
 use Rattle.adr_call.specs.declared.call.Call.TheVariants.{Write}
-use Rattle.adr_call.specs.declared.event.Event.TheVariants.{Controller, Time, Calls, Report}
+use Rattle.adr_call.specs.declared.event.Event.TheVariants.{Time, Calls, Asks, Comes}
+use Rattle.adr_call.specs.declared.event.Coming.TheVariants.{Fresh}
 use Rattle.adr_call.specs.declared.answer.Answer.{Answer}
 use Rattle.adr_call.specs.declared.write.Write.TheVariants as writes
 use Rattle.adr_call.specs.declared.report.Report.TheVariants.{Directory}
@@ -19,10 +20,10 @@ add_user guid name login = Calls (codes "A") (Write (writes.Add (identifier guid
 -- one controller, one person, and the directory
 abbrev pub first_person : List Event
 first_person =
-    Controller (codes "A") (identifier 160) (identifier 161)
+    Comes (codes "A") (identifier 161) (Fresh (identifier 160))
     ∷ Time 1000
     ∷ add_user 16 (codes "Ann") (codes "ann")
-    ∷ Report (codes "A") Directory
+    ∷ Asks (codes "A") Directory
     ∷ []
 
 abbrev pub first_person_answers : List Answer
@@ -35,14 +36,14 @@ first_person_answers =
 -- adds that are refused, and one between them that is not; the directory goes by GUID
 abbrev pub refused_adds : List Event
 refused_adds =
-    Controller (codes "A") (identifier 160) (identifier 161)
+    Comes (codes "A") (identifier 161) (Fresh (identifier 160))
     ∷ add_user 17 (codes "Ann") (codes "ann")
     ∷ add_user 18 (codes "ANN") (codes "x")
     ∷ add_user 17 (codes "Bo") (codes "bo")
     ∷ add_user 1 (codes "Bo") (codes "bo")
     ∷ add_user 18 (codes "LostAndFound") (codes "x")
     ∷ add_user 16 (codes "Bo") (codes "bo")
-    ∷ Report (codes "A") Directory
+    ∷ Asks (codes "A") Directory
     ∷ []
 
 abbrev pub refused_adds_answers : List Answer

@@ -4,7 +4,8 @@ use Rattle.std.specs.List.{range_with_len}
 use Rattle.adr_disk.specs.declared.memory.Crash.{Crash}
 use Rattle.adr_disk.specs.declared.memory.Crash.TheVariants.{Kept, Lost, Torn}
 use Rattle.adr_call.specs.declared.event.Event.{Event}
-use Rattle.adr_call.specs.declared.event.Event.TheVariants.{StopAfter, Start, Report}
+use Rattle.adr_call.specs.declared.event.Event.TheVariants.{Asks, Meets}
+use Rattle.adr_call.specs.declared.event.Meeting.TheVariants.{Start, StopAfter}
 use Rattle.adr_call.specs.declared.answer.Answer.{Answer}
 use Rattle.adr_call.specs.declared.report.Report.TheVariants.{Directory}
 use Rattle.adr_call.specs.declared.outcome.Outcome.TheVariants as outcomes
@@ -177,7 +178,7 @@ not_added = full_log (codes "add") ∷ []
 
 -- an object is added while the disk stops behind so many of nine calls
 abbrev pub stopped_due_add : ℕ → Crash → List Event
-stopped_due_add calls how = StopAfter (codes "A") calls how ∷ add_x ∷ Start (codes "A") ∷ Report (codes "A") Directory ∷ []
+stopped_due_add calls how = Meets (codes "A") (StopAfter calls how) ∷ add_x ∷ Meets (codes "A") Start ∷ Asks (codes "A") Directory ∷ []
 
 abbrev pub stopped_due_add_told : List Entry → List Answer
 stopped_due_add_told entries =

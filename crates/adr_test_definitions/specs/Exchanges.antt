@@ -5,6 +5,10 @@ use Rattle.adr_values.specs.declared.mark.Mark.{Mark}
 use Rattle.adr_call.specs.declared.event.Event.{Event}
 use Rattle.adr_call.specs.declared.call.Call.TheVariants as calls
 use Rattle.adr_call.specs.declared.event.Event.TheVariants as events
+use Rattle.adr_call.specs.declared.event.Coming.TheVariants as comings
+use Rattle.adr_call.specs.declared.event.Use.TheVariants as used
+use Rattle.adr_call.specs.declared.event.Made.TheVariants as mades
+use Rattle.adr_call.specs.declared.event.Exchange.TheVariants as exchanges
 use Rattle.adr_call.specs.declared.answer.Answer.{Answer}
 use Rattle.adr_call.specs.declared.write.Write.TheVariants as writes
 use Rattle.adr_call.specs.declared.report.Report.TheVariants as reports
@@ -43,9 +47,9 @@ cut_and_cycle =
     ∷ new_b
     ∷ add_container a 16 (codes "x")
     ∷ add_container a 17 (codes "y")
-    ∷ events.Pull b a 1
+    ∷ events.Goes b (exchanges.Pull a 1)
     ∷ events.Calls a (calls.Write (writes.Modify (identifier 16) ((12, Text (codes "d") ∷ []) ∷ [])))
-    ∷ events.Cycle b a 1
+    ∷ events.Goes b (exchanges.Cycle a 1)
     ∷ []
 
 abbrev pub cut_and_cycle_told : List Answer
@@ -71,11 +75,11 @@ delivered_twice =
     new_a
     ∷ new_b
     ∷ add_container a 16 (codes "x")
-    ∷ events.Ask b a 10 2 (codes "q")
-    ∷ events.Serve a (codes "q") (codes "r")
-    ∷ events.Deliver b (codes "r")
-    ∷ events.Deliver b (codes "r")
-    ∷ events.Deliver b (codes "s")
+    ∷ events.Binds b (mades.Ask a 10 2) (codes "q")
+    ∷ events.Binds a (mades.Serve (codes "q")) (codes "r")
+    ∷ events.Uses b used.Deliver (codes "r")
+    ∷ events.Uses b used.Deliver (codes "r")
+    ∷ events.Uses b used.Deliver (codes "s")
     ∷ []
 
 abbrev pub delivered_twice_told : List Answer
@@ -92,15 +96,15 @@ abbrev pub restore : List Event
 restore =
     new_a
     ∷ new_b
-    ∷ events.Backup a (codes "i")
+    ∷ events.Binds a mades.Backup (codes "i")
     ∷ add_container a 16 (codes "1")
-    ∷ events.Pull b a 10
-    ∷ events.Restore a (codes "i") (identifier 162)
-    ∷ events.Report a reports.Directory
-    ∷ events.Cycle a b 10
+    ∷ events.Goes b (exchanges.Pull a 10)
+    ∷ events.Comes a (identifier 162) (comings.Restored (codes "i"))
+    ∷ events.Asks a reports.Directory
+    ∷ events.Goes a (exchanges.Cycle b 10)
     ∷ add_container a 17 (codes "2")
-    ∷ events.Cycle b a 10
-    ∷ events.Report b reports.Directory
+    ∷ events.Goes b (exchanges.Cycle a 10)
+    ∷ events.Asks b reports.Directory
     ∷ []
 
 abbrev pub restore_told : List Answer
@@ -125,15 +129,15 @@ abbrev pub rollback : List Event
 rollback =
     new_a
     ∷ new_b
-    ∷ events.Snapshot a (codes "s")
+    ∷ events.Binds a mades.Snapshot (codes "s")
     ∷ add_container a 16 (codes "x")
-    ∷ events.Cycle b a 10
-    ∷ events.Rollback a (codes "s")
-    ∷ events.Ask b a 10 2 (codes "q")
-    ∷ events.Serve a (codes "q") (codes "r")
+    ∷ events.Goes b (exchanges.Cycle a 10)
+    ∷ events.Uses a used.Rollback (codes "s")
+    ∷ events.Binds b (mades.Ask a 10 2) (codes "q")
+    ∷ events.Binds a (mades.Serve (codes "q")) (codes "r")
     ∷ add_container a 17 (codes "y")
-    ∷ events.Backup a (codes "i")
-    ∷ events.Deliver b (codes "r")
+    ∷ events.Binds a mades.Backup (codes "i")
+    ∷ events.Uses b used.Deliver (codes "r")
     ∷ []
 
 abbrev pub rollback_told : List Answer
@@ -156,15 +160,15 @@ collection =
     ∷ new_b
     ∷ events.Time 10
     ∷ add_container a 16 (codes "x")
-    ∷ events.Cycle b a 10
+    ∷ events.Goes b (exchanges.Cycle a 10)
     ∷ events.Calls a (calls.Write (writes.Delete (identifier 16)))
     ∷ events.Time 100
     ∷ events.Calls a (calls.Collect 50)
-    ∷ events.Ask b a 10 2 (codes "q")
-    ∷ events.Serve a (codes "q") (codes "r")
-    ∷ events.Backup a (codes "i")
-    ∷ events.Install (codes "C") (identifier 192) (codes "i") (identifier 193)
-    ∷ events.Cycle (codes "C") a 10
+    ∷ events.Binds b (mades.Ask a 10 2) (codes "q")
+    ∷ events.Binds a (mades.Serve (codes "q")) (codes "r")
+    ∷ events.Binds a mades.Backup (codes "i")
+    ∷ events.Comes (codes "C") (identifier 193) (comings.Installed (identifier 192) (codes "i"))
+    ∷ events.Goes (codes "C") (exchanges.Cycle a 10)
     ∷ []
 
 abbrev pub collection_told : List Answer
@@ -185,4 +189,4 @@ collection_told =
 
 -- a request that is bound to a name
 abbrev pub asked_once : List Event
-asked_once = new_a ∷ new_b ∷ events.Ask b a 10 2 (codes "q") ∷ []
+asked_once = new_a ∷ new_b ∷ events.Binds b (mades.Ask a 10 2) (codes "q") ∷ []

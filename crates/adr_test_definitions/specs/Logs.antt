@@ -2,7 +2,9 @@
 use Rattle.std.specs.Prelude.{ℕ, ◌-◌, false, List, [], ◌∷◌, Option, codes}
 use Rattle.std.specs.Option.{option_map}
 use Rattle.adr_call.specs.declared.event.Event.{Event}
-use Rattle.adr_call.specs.declared.event.Event.TheVariants.{Serve, Snapshot, Rollback, Report}
+use Rattle.adr_call.specs.declared.event.Event.TheVariants.{Asks, Binds, Uses}
+use Rattle.adr_call.specs.declared.event.Use.TheVariants.{Rollback}
+use Rattle.adr_call.specs.declared.event.Made.TheVariants.{Serve, Snapshot}
 use Rattle.adr_call.specs.declared.answer.Answer.{Answer}
 use Rattle.adr_call.specs.declared.report.Report.TheVariants.{Directory}
 use Rattle.adr_call.specs.declared.outcome.Plainly.TheVariants.{Number, Word}
@@ -33,7 +35,7 @@ full_log verb =
 -- a new disk's log ends at 101; a container of one letter takes 183 bytes, whose object is 140 of them. One fits to the last
 -- byte, and the next isn't written
 abbrev pub last_room : List Event
-last_room = add_container (codes "A") 16 (codes "x") ∷ add_container (codes "A") 17 (codes "y") ∷ Report (codes "A") Directory ∷ []
+last_room = add_container (codes "A") 16 (codes "x") ∷ add_container (codes "A") 17 (codes "y") ∷ Asks (codes "A") Directory ∷ []
 
 abbrev pub last_room_told : List Answer
 last_room_told =
@@ -57,16 +59,16 @@ put_back =
     new_a
     ∷ add_container (codes "A") 16 (codes "x")
     ∷ add_container (codes "A") 17 (codes "y")
-    ∷ Snapshot (codes "A") (codes "s")
+    ∷ Binds (codes "A") Snapshot (codes "s")
     ∷ add_container (codes "A") 18 (codes "z")
-    ∷ Rollback (codes "A") (codes "s")
+    ∷ Uses (codes "A") Rollback (codes "s")
     ∷ []
 
 -- a controller that was put back is asked by one who has seen more, and has no room to note that it is shut off: 35 bytes
 abbrev pub asked_for_more : ℕ → List Answer
 asked_for_more end =
     answers (record (with_log end) { requests = (codes "q", record { version = 2; dest = identifier 176; source = identifier 160; inv = identifier 161; mark = record { obj = 1; prop = 1; seen = 1 }; schema = 1; max = 10; vector = [] }) ∷ [] })
-    (Serve (codes "A") (codes "q") (codes "r") ∷ [])
+    (Binds (codes "A") (Serve (codes "q")) (codes "r") ∷ [])
 
 abbrev pub shut_off : List Answer
 shut_off = answer (codes "serve") (codes "A") (rolled_back (identifier 161) 0 1) ∷ []

@@ -2,6 +2,9 @@
 use Rattle.std.specs.Prelude.{ℕ, List, [], ◌∷◌, Bool, codes}
 use Rattle.adr_call.specs.declared.event.Event.{Event}
 use Rattle.adr_call.specs.declared.event.Event.TheVariants as events
+use Rattle.adr_call.specs.declared.event.Coming.TheVariants as comings
+use Rattle.adr_call.specs.declared.event.Exchange.TheVariants as exchanges
+use Rattle.adr_call.specs.declared.event.Meeting.TheVariants as meetings
 use Rattle.adr_call.specs.declared.answer.Answer.{Answer}
 use Rattle.adr_call.specs.declared.outcome.Outcome.TheVariants as outcomes
 use Rattle.adr_model.specs.Place.{identifier}
@@ -14,14 +17,14 @@ c = codes "C"
 
 -- so many rounds of A, B and C
 abbrev pub ring_of : ℕ → Event
-ring_of rounds = events.Ring a (b ∷ c ∷ []) rounds 10
+ring_of rounds = events.Goes a (exchanges.Ring (b ∷ c ∷ []) rounds 10)
 
 abbrev pub after_rounds : ℕ → Bool → Bool → Answer
 after_rounds rounds directories vectors = answer (codes "ring") a (outcomes.Compared rounds directories vectors)
 
 -- an object is added at one of three, and then rings
 abbrev pub three : List ℕ → List Event → List Event
-three name rings = new_a ∷ new_b ∷ events.Controller c (identifier 192) (identifier 193) ∷ add_container name 16 (codes "x") ∷ rings
+three name rings = new_a ∷ new_b ∷ events.Comes c (identifier 193) (comings.Fresh (identifier 192)) ∷ add_container name 16 (codes "x") ∷ rings
 
 abbrev pub three_told : List ℕ → List Answer → List Answer
 three_told name told =
@@ -30,7 +33,7 @@ three_told name told =
 
 -- a controller that is down ends the ring
 abbrev pub stopped : List Event
-stopped = three a (events.Stop c ∷ ring_of 2 ∷ events.Start c ∷ events.Fail b 2 ∷ ring_of 2 ∷ [])
+stopped = three a (events.Meets c meetings.Stop ∷ ring_of 2 ∷ events.Meets c meetings.Start ∷ events.Meets b (meetings.Fail 2) ∷ ring_of 2 ∷ [])
 
 abbrev pub stopped_told : List Answer
 stopped_told =

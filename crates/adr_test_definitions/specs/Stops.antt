@@ -4,7 +4,9 @@ use Rattle.adr_disk.specs.declared.memory.Crash.{Crash}
 use Rattle.adr_disk.specs.declared.memory.Crash.TheVariants.{Kept, Lost}
 use Rattle.adr_call.specs.declared.event.Event.{Event}
 use Rattle.adr_call.specs.declared.call.Call.TheVariants.{Write}
-use Rattle.adr_call.specs.declared.event.Event.TheVariants.{Controller, Calls, StopAfter, Fail, Stop, Start, Report}
+use Rattle.adr_call.specs.declared.event.Event.TheVariants.{Calls, Asks, Comes, Meets}
+use Rattle.adr_call.specs.declared.event.Coming.TheVariants.{Fresh}
+use Rattle.adr_call.specs.declared.event.Meeting.TheVariants.{Fail, Start, Stop, StopAfter}
 use Rattle.adr_call.specs.declared.answer.Answer.{Answer}
 use Rattle.adr_call.specs.declared.write.Write.TheVariants as writes
 use Rattle.adr_call.specs.declared.report.Report.TheVariants.{Directory}
@@ -16,10 +18,10 @@ use Rattle.adr_model.specs.World.{answer}
 use Rattle.adr_test_definitions.specs.Acting.{container}
 
 abbrev pub new_a : Event
-new_a = Controller (codes "A") (identifier 160) (identifier 161)
+new_a = Comes (codes "A") (identifier 161) (Fresh (identifier 160))
 
 abbrev pub new_b : Event
-new_b = Controller (codes "B") (identifier 176) (identifier 177)
+new_b = Comes (codes "B") (identifier 177) (Fresh (identifier 176))
 
 abbrev pub add_container : List ℕ → ℕ → List ℕ → Event
 add_container name guid text = Calls name (Write (writes.Add (identifier guid) 4 root text []))
@@ -38,10 +40,10 @@ abbrev pub stopped_add : ℕ → Crash → List Event
 stopped_add calls how =
     new_a
     ∷ add_x
-    ∷ StopAfter (codes "A") calls how
+    ∷ Meets (codes "A") (StopAfter calls how)
     ∷ add_y
-    ∷ Start (codes "A")
-    ∷ Report (codes "A") Directory
+    ∷ Meets (codes "A") Start
+    ∷ Asks (codes "A") Directory
     ∷ []
 
 abbrev pub one_object : List Entry
@@ -73,12 +75,12 @@ abbrev pub stopped_start : List Event
 stopped_start =
     new_a
     ∷ add_x
-    ∷ Stop (codes "A")
-    ∷ StopAfter (codes "A") 0 Lost
-    ∷ Start (codes "A")
-    ∷ Report (codes "A") Directory
-    ∷ Start (codes "A")
-    ∷ Report (codes "A") Directory
+    ∷ Meets (codes "A") Stop
+    ∷ Meets (codes "A") (StopAfter 0 Lost)
+    ∷ Meets (codes "A") Start
+    ∷ Asks (codes "A") Directory
+    ∷ Meets (codes "A") Start
+    ∷ Asks (codes "A") Directory
     ∷ []
 
 abbrev pub stopped_start_told : List Answer
@@ -97,15 +99,15 @@ stopped_start_told =
 abbrev pub failing_device : List Event
 failing_device =
     new_a
-    ∷ Fail (codes "A") 0
+    ∷ Meets (codes "A") (Fail 0)
     ∷ add_x
     ∷ add_x
-    ∷ Start (codes "A")
-    ∷ Stop (codes "A")
-    ∷ Report (codes "A") Directory
-    ∷ Start (codes "A")
-    ∷ Start (codes "A")
-    ∷ Report (codes "A") Directory
+    ∷ Meets (codes "A") Start
+    ∷ Meets (codes "A") Stop
+    ∷ Asks (codes "A") Directory
+    ∷ Meets (codes "A") Start
+    ∷ Meets (codes "A") Start
+    ∷ Asks (codes "A") Directory
     ∷ []
 
 abbrev pub failing_device_told : List Answer
@@ -124,7 +126,7 @@ failing_device_told =
 
 -- the last sync fails: the next start finds the change
 abbrev pub failing_last_sync : List Event
-failing_last_sync = new_a ∷ Fail (codes "A") 3 ∷ add_x ∷ Start (codes "A") ∷ Report (codes "A") Directory ∷ []
+failing_last_sync = new_a ∷ Meets (codes "A") (Fail 3) ∷ add_x ∷ Meets (codes "A") Start ∷ Asks (codes "A") Directory ∷ []
 
 abbrev pub failing_last_sync_told : List Answer
 failing_last_sync_told =
@@ -137,7 +139,7 @@ failing_last_sync_told =
 
 -- what a call leaves of a plan is met by a later one
 abbrev pub met_later : List Event
-met_later = new_a ∷ StopAfter (codes "A") 5 Kept ∷ add_x ∷ add_y ∷ Start (codes "A") ∷ Report (codes "A") Directory ∷ []
+met_later = new_a ∷ Meets (codes "A") (StopAfter 5 Kept) ∷ add_x ∷ add_y ∷ Meets (codes "A") Start ∷ Asks (codes "A") Directory ∷ []
 
 abbrev pub met_later_told : List Answer
 met_later_told =

@@ -4,6 +4,9 @@ use Rattle.adr_values.specs.declared.content.Value.TheVariants.{Text, Number as 
 use Rattle.adr_call.specs.declared.event.Event.{Event}
 use Rattle.adr_call.specs.declared.call.Call.TheVariants as calls
 use Rattle.adr_call.specs.declared.event.Event.TheVariants as events
+use Rattle.adr_call.specs.declared.event.Use.TheVariants as used
+use Rattle.adr_call.specs.declared.event.Made.TheVariants as mades
+use Rattle.adr_call.specs.declared.event.Exchange.TheVariants as exchanges
 use Rattle.adr_call.specs.declared.answer.Answer.{Answer}
 use Rattle.adr_call.specs.declared.write.Write.TheVariants as writes
 use Rattle.adr_call.specs.declared.report.Report.TheVariants as reports
@@ -23,7 +26,7 @@ abbrev pub one_object_of_a : List Event
 one_object_of_a = new_a ∷ new_b ∷ events.Time 7 ∷ add_container a 16 (codes "x") ∷ []
 
 abbrev pub in_version : ℕ → List Event
-in_version version = one_object_of_a ++ events.Ask b a 10 version (codes "q") ∷ events.Serve a (codes "q") (codes "r") ∷ events.Deliver b (codes "r") ∷ events.Report b reports.Vector ∷ []
+in_version version = one_object_of_a ++ events.Binds b (mades.Ask a 10 version) (codes "q") ∷ events.Binds a (mades.Serve (codes "q")) (codes "r") ∷ events.Uses b used.Deliver (codes "r") ∷ events.Asks b reports.Vector ∷ []
 
 abbrev pub seen_by_b : Outcome → List Answer
 seen_by_b seen = both_made ++ answer (codes "add") a (outcomes.Usn 1) ∷ [] ++ one_taken ++ answer (codes "vector") b seen ∷ []
@@ -42,12 +45,12 @@ other_schema =
     ∷ events.Calls a (calls.Write (writes.Add (identifier 16) 8 root (codes "c") []))
     ∷ events.Calls a calls.Upgrade
     ∷ events.Calls a (calls.Write (writes.Add (identifier 16) 8 root (codes "c") ((21, Text (codes "t") ∷ []) ∷ [])))
-    ∷ events.Ask b a 10 2 (codes "q")
-    ∷ events.Serve a (codes "q") (codes "r")
+    ∷ events.Binds b (mades.Ask a 10 2) (codes "q")
+    ∷ events.Binds a (mades.Serve (codes "q")) (codes "r")
     ∷ events.Calls b calls.Upgrade
     ∷ events.Calls b calls.Upgrade
-    ∷ events.Cycle b a 10
-    ∷ events.Report b reports.Directory
+    ∷ events.Goes b (exchanges.Cycle a 10)
+    ∷ events.Asks b reports.Directory
     ∷ []
 
 abbrev pub other_schema_told : List Answer
@@ -75,16 +78,16 @@ revived =
     ∷ events.Calls a (calls.Write (writes.Add (identifier 17) 5 (identifier 16) (codes "u") (account (codes "u"))))
     ∷ events.Calls a (calls.Write (writes.Add (identifier 18) 6 root (codes "g") ((19, Integer (pos 2) ∷ []) ∷ [])))
     ∷ events.Calls a (calls.Write (writes.Link (identifier 18) 30 (identifier 17)))
-    ∷ events.Backup a (codes "i")
+    ∷ events.Binds a mades.Backup (codes "i")
     ∷ events.Calls a (calls.Write (writes.Delete (identifier 17)))
     ∷ events.Calls a (calls.Write (writes.Delete (identifier 16)))
     ∷ events.Time 20
-    ∷ events.Revive a (identifier 17) (codes "i") root (codes "u")
-    ∷ events.Revive a (identifier 16) (codes "i") root (codes "o")
-    ∷ events.Report a reports.Directory
-    ∷ events.Revive a (identifier 17) (codes "i") root (codes "u")
-    ∷ events.Revive a (identifier 19) (codes "i") root (codes "z")
-    ∷ events.Revive a (identifier 17) (codes "j") root (codes "u")
+    ∷ events.Uses a (used.Revive (identifier 17) root (codes "u")) (codes "i")
+    ∷ events.Uses a (used.Revive (identifier 16) root (codes "o")) (codes "i")
+    ∷ events.Asks a reports.Directory
+    ∷ events.Uses a (used.Revive (identifier 17) root (codes "u")) (codes "i")
+    ∷ events.Uses a (used.Revive (identifier 19) root (codes "z")) (codes "i")
+    ∷ events.Uses a (used.Revive (identifier 17) root (codes "u")) (codes "j")
     ∷ []
 
 abbrev pub revived_shown : List Entry

@@ -21,7 +21,9 @@ ghost use Rattle.adr_test_definitions.specs.Exchanges.{cut_and_cycle, cut_and_cy
 ghost use Rattle.adr_model.specs.Step.{after_lines, answers};
 ghost use Rattle.adr_model.specs.World.{empty_world};
 ghost use Rattle.adr_test_definitions.specs.Answered.{first_person, first_person_answers, refused_adds, refused_adds_answers};
-ghost use Rattle.adr_call.specs.declared.event.Event.TheVariants.{Ask, Rollback};
+ghost use Rattle.adr_call.specs.declared.event.Event.TheVariants.{Binds, Uses};
+ghost use Rattle.adr_call.specs.declared.event.Use.TheVariants.{Rollback};
+ghost use Rattle.adr_call.specs.declared.event.Made.TheVariants.{Ask};
 ghost use Rattle.adr_call.specs.declared.refusal.ItemFault.TheVariants.{Schema as BreaksSchema};
 ghost use Rattle.adr_call.specs.declared.refusal.TakeRefusal.TheVariants.{BadItem};
 ghost use Rattle.adr_values.specs.declared.refusal.SchemaRefusal.TheVariants.{UnknownAttribute};
@@ -205,12 +207,12 @@ pub fn forged_rows()
 #[tactic(none)]
 pub fn what_lines_leave()
     ensures unclean { (after_lines empty_world log_put_back).clean ≡ false }
-    ensures clean { (after_lines empty_world (new_a ∷ Rollback (codes "A") (codes "s") ∷ [])).clean ≡ true }
+    ensures clean { (after_lines empty_world (new_a ∷ Uses (codes "A") Rollback (codes "s") ∷ [])).clean ≡ true }
     ensures two { (two_items first).usn ≡ 2 }
-    ensures bound { MayHappen (after_lines empty_world asked_once) (Ask (codes "B") (codes "A") 10 2 (codes "q"))
+    ensures bound { MayHappen (after_lines empty_world asked_once) (Binds (codes "B") (Ask (codes "A") 10 2) (codes "q"))
         → ⊥ }
     ensures two_changes { IsOfOneChange one_usn_twice (birth_at_1 16) (birth_at_1 17) → ⊥ }
-    ensures unbound { MayHappen (after_lines empty_world asked_once) (Ask (codes "B") (codes "A") 10 2 (codes "p")) }
+    ensures unbound { MayHappen (after_lines empty_world asked_once) (Binds (codes "B") (Ask (codes "A") 10 2) (codes "p")) }
 {}
 
 /// Times, two schemas, and an object of an image that comes again.

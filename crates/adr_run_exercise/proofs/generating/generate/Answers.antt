@@ -1,5 +1,4 @@
 use Rattle.std.proofs.Common.{sym, subst}
-use Rattle.std.specs.Prelude.{All}
 use Rattle.adr_schedule.specs.Seen.{nothing_seen, IsFollowing}
 use Rattle.adr_run_exercise.proofs.Followed.{schedules_follow}
 use Rattle.adr_run_exercise.proofs.generating.generate.Goals as goal

@@ -7,19 +7,21 @@ use Rattle.adr_call.specs.declared.event.Event.TheVariants.{Calls}
 use Rattle.adr_values.specs.Assignments.{Given}
 use Rattle.adr_token.specs.Identifiers.{identifier_at}
 use Rattle.adr_token.specs.Words.{name_at}
-use Rattle.adr_schedule.specs.Commands.{modify_line}
+use Rattle.adr_call.specs.declared.verb.Verb.TheVariants as verbs
+use Rattle.adr_schedule.specs.Forms.{line_by}
+use Rattle.adr_schedule.specs.Commands.{by_verb}
 use Rattle.adr_schedule.specs.Sets.{sets_at}
 use Rattle.adr_schedule.proofs.commands.modify.Goals as goal
 
 -- no set stands there
 without_sets : (bytes name guid behind rest : List ℕ) (values : List Given) → name_at bytes ≡ Some (name, behind) → identifier_at behind ≡ Some (guid, rest) → sets_at rest ≡ Some values
-    → values ≡ [] → modify_line bytes ≡ None
-unfolding modify_line
+    → values ≡ [] → by_verb verbs.Modify bytes ≡ None
+unfolding line_by
 without_sets bytes name guid behind rest values n g v none = rw (n, g, v, none) refl
 
 with_some : (bytes name guid behind rest : List ℕ) (values : List Given) → name_at bytes ≡ Some (name, behind) → identifier_at behind ≡ Some (guid, rest) → sets_at rest ≡ Some values
-    → (values ≡ [] → ⊥) → modify_line bytes ≡ Some (Calls name (Write (Modify guid values)))
-unfolding modify_line
+    → (values ≡ [] → ⊥) → by_verb verbs.Modify bytes ≡ Some (Calls name (Write (Modify guid values)))
+unfolding line_by
 with_some bytes name guid behind rest values n g v some = rw (n, g, v, ne_eqb (length values) 0 (λ none. some (nil_from_length values none))) refl
 
 pub returns-then-is_empty : goal.returns-then-is_empty

@@ -1,8 +1,8 @@
-use Rattle.std.proofs.Common.{◌≡◌, ◌∙◌, sym, ap, subst, codes}
+use Rattle.std.proofs.Common.{◌≡◌, ◌∙◌, sym, ap, subst}
 use Rattle.adr_call.specs.declared.outcome.Outcome.{Outcome}
-use Rattle.adr_call.specs.declared.event.Event.TheVariants.{Ask}
+use Rattle.adr_call.specs.declared.event.Made.TheVariants.{Ask}
 use Rattle.adr_law_recorded.specs.Ranged.{IsRangedRequest}
-use Rattle.adr_model.specs.Step.{step, told}
+use Rattle.adr_model.specs.Step.{makes}
 use Rattle.adr_model.specs.World.{asks, bound}
 use Rattle.adr_run_world.specs.Run.{AreRanged, world_of}
 use Rattle.adr_run_world.proofs.Adoptions.{bound_so}
@@ -10,14 +10,14 @@ use Rattle.adr_run_world.proofs.Bindings.{each_bound}
 use Rattle.adr_run_world.proofs.Results.{either_so, on_err_so, on_ok_as}
 use Rattle.adr_run_world.proofs.run.Run.ask.Goals as goal
 
-pub returns-clause-stepped : goal.returns-clause-stepped
-returns-clause-stepped c =
+pub returns-clause-done : goal.returns-clause-done
+returns-clause-done c =
     let w = world_of c.args.self.now in
     let sent = c.in_ok-sent.sent in
-    on_ok_as c.bind.result sent.0 (λ (o : Outcome). step w (Ask c.args.name.now c.args.partner.now c.args.max c.args.version c.args.bound.now) ≡ told (codes "ask") c.args.name.now (record w { requests = c.bind.new.self }, o)) c.bind.ensures.outcome c.bind.ensures.ok
-    (λ made. bound_so (codes "ask") c.args.name.now (asks w c.args.name.now c.args.partner.now c.args.max c.args.version) (λ v q. record v { requests = bound v.requests c.args.bound.now q }) w sent.0 sent.1
+    on_ok_as c.bind.result sent.0 (λ (o : Outcome). makes w c.args.name.now (Ask c.args.partner.now c.args.max c.args.version) c.args.bound.now ≡ (record w { requests = c.bind.new.self }, o)) c.bind.ensures.outcome c.bind.ensures.ok
+    (λ made. bound_so (asks w c.args.name.now c.args.partner.now c.args.max c.args.version) (λ v q. record v { requests = bound v.requests c.args.bound.now q }) w sent.0 sent.1
     c.in_ok-sent.ensures.asked
-    ∙ ap (λ xs. told (codes "ask") c.args.name.now (record w { requests = xs }, sent.0)) (sym made))
+    ∙ ap (λ xs. (record w { requests = xs }, sent.0)) (sym made))
 
 pub returns-clause-err : goal.returns-clause-err
 returns-clause-err c = on_err_so c.bind.result c.bind.ensures.err (λ same. ap (λ xs. record (world_of c.args.self.now) { requests = xs }) same)
