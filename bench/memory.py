@@ -6,8 +6,8 @@ Usage: bench/memory.py [--program PROGRAM] [--most N] [SCHEDULE..]   (without sc
 A library that is loaded before the program's own counts what it allocates and refuses one allocation, the Nth (gcc makes it).
 A `replay` ends with 8 then, and has written a front of the bytes that are due; or it did without, and has written all. A
 command over a file ends with 8 too, and a `show` finds what was there before it or what it was to leave, nothing else. A
-server that ends so has lost nothing that it answered. With more than N allocations (5,000 without --most) every so many of
-them are tried, the first thousand always.
+server that ends so has lost nothing that it answered. With more than N allocations (5,000 without --most) the first
+half of N and every so many of the others are tried.
 """
 import argparse
 import glob
@@ -90,11 +90,12 @@ class Refusing:
 
 
 def places(count, most):
-    """All numbers up to a count; of more than so many the first thousand and some of the rest, evenly."""
+    """All numbers up to a count; of more than so many half as many at the front, and some of the rest, evenly."""
     if count <= most:
         return range(1, count + 1)
-    step = (count - 1000) // (most - 1000) + 1
-    return [*range(1, 1001), *range(1001, count + 1, step)]
+    front = most // 2
+    step = (count - front) // (most - front) + 1
+    return [*range(1, front + 1), *range(front + 1, count + 1, step)]
 
 
 def replays(refusing, path, most):

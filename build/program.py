@@ -53,8 +53,9 @@ class Crate:
         return sorted(f"{folder}/{file}" for part in parts for folder, _, files in os.walk(f"{self.folder}/{part}") for file in files)
 
     def seconds(self, below):
-        """A guess of what its check takes: ten lines of code a second, half as many where it stands on 50 crates, behind what each check loads."""
-        return 8 + sum(read(it).count(b"\n") for it in self.files("src")) / 10 * (1 + below / 50)
+        """A guess of what its check takes: what it loads of the crates below, its lines of code, and its lines of proof."""
+        code, proof = (sum(read(it).count(b"\n") for it in self.files(part)) for part in ("src", "proofs"))
+        return 8 + below / 3 + code / 14 + proof / 65
 
 
 def read(file):
