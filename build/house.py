@@ -3,7 +3,8 @@
 
 A crate `adr_run_*` is there because a schedule is run, one called `adr_test_*` has tests, and `adr_law_*` are laws. No
 crate but these, and the program itself, stands on a crate of the first two kinds, and none of a run stands on tests.
-The groups of `crates.txt` are those of "The rooms" in `docs/ARCHITECTURE.md`, with the same crates in the same order.
+The groups of `crates.txt` are those of "The rooms" in `docs/ARCHITECTURE.md`, with the same crates in the same order. No
+crate stands on one of a later group. `docs/house.svg` is the picture of them, which `build/house.py --draw` makes.
 The rooms that have an `OUTLINE.md` are those to which the table of `docs/PROOFS.md` leads. What has to be believed is
 what the tables of `docs/MODEL.md` list (`bench/believed.py`). A line of prose has at most 120 columns.
 It writes what is wrong, a line each, and ends with 1 if something is.
@@ -13,9 +14,12 @@ import os
 import re
 import sys
 
+from drawing import picture
+
 TOP = os.path.join(os.path.dirname(os.path.abspath(__file__)), "..")
 PROGRAM = ("adr_cmd", "adrep")
 COLUMNS = 120
+PICTURE = "docs/house.svg"
 
 
 def groups_of_crates(text):
@@ -61,6 +65,25 @@ def wrong_edges(groups):
         for below in belows
         if below.startswith("adr") and kind(below) not in may.get(kind(name), ("product", "run", "program", "test"))
     ]
+
+
+def upward_edges(groups):
+    """A line for each crate that stands on one of a later group."""
+    place = {name: at for at, (_, crates) in enumerate(groups) for name, _ in crates}
+    return [
+        f"{name} stands on {below}, which is in a later group of crates.txt"
+        for at, (_, crates) in enumerate(groups)
+        for name, belows in crates
+        for below in belows
+        if place.get(below, at) > at
+    ]
+
+
+def wrong_picture(groups):
+    """A line where the picture isn't that of the groups."""
+    path = os.path.join(TOP, PICTURE)
+    is_drawn = os.path.exists(path) and read(PICTURE) == picture(groups)
+    return [] if is_drawn else [f"{PICTURE} isn't the picture of crates.txt: build/house.py --draw"]
 
 
 def differences(groups, page):
@@ -121,7 +144,10 @@ def main():
 
     groups = groups_of_crates(read("crates.txt"))
     names = {name for _, crates in groups for name, _ in crates}
-    wrong = wrong_edges(groups) + differences(groups, groups_of_page(read("docs/ARCHITECTURE.md")))
+    if sys.argv[1:] == ["--draw"]:
+        with open(os.path.join(TOP, PICTURE), "w", encoding="utf-8") as file:
+            file.write(picture(groups))
+    wrong = wrong_edges(groups) + upward_edges(groups) + wrong_picture(groups) + differences(groups, groups_of_page(read("docs/ARCHITECTURE.md")))
     wrong += wrong_outlines(names) + lacking() + wide_lines()
     for line in wrong:
         print(line)
