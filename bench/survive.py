@@ -151,7 +151,7 @@ class File:
 
 def record_of(number):
     """The bytes of a record that adds the object of a number, whose name is an `o` and the number."""
-    return 179 + len(str(number))
+    return 183 + len(str(number))
 
 
 class FullFile(File):
